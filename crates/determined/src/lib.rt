@@ -1,0 +1,1 @@
+// No code: the word that every crate's `proofs/Determined.antt` is written in.

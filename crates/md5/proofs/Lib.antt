@@ -1,0 +1,5 @@
+pub mod Operations
+pub mod Bytes
+pub mod Stream
+pub mod Determined
+pub mod Examples

@@ -1,0 +1,72 @@
+-- `md5::block::op_f` meets its contract. Assumes nothing.
+use mathlib.Core.List.{List}
+use Prim.Native.Nat.{ℕ, _+_, _*_, _%_}
+use denote.Ref.{now}
+use lib.ListN.{getD}
+use Rattle.md5.specs.Rfc1321.{words}
+use Rattle.md5.proofs.Operations.{operation, mix-f, word-at}
+use borrow.Author.Needs.{needs}
+use Rattle.md5.proofs.block.op_f.Statement.{statement}
+use Rattle.md5.proofs.block.op_f.Tie as tie
+
+mul-word : tie.Need-mul-word
+mul-word c = search needs
+
+word-requires : tie.Need-word-requires
+word-requires c κs = search needs
+
+array-read-step : tie.Need-array-read-step
+array-read-step c = search needs
+
+array-read-step-2 : tie.Need-array-read-step-2
+array-read-step-2 c = search needs
+
+array-read-step-3 : tie.Need-array-read-step-3
+array-read-step-3 c = search needs
+
+array-read-step-4 : tie.Need-array-read-step-4
+array-read-step-4 c = search needs
+
+add-sine : tie.Need-add-sine
+add-sine c = search needs
+
+sine-requires : tie.Need-sine-requires
+sine-requires c κs = search needs
+
+add-shift : tie.Need-add-shift
+add-shift c = search needs
+
+shift-requires : tie.Need-shift-requires
+shift-requires c κs = search needs
+
+step-requires : tie.Need-step-requires
+step-requires c κs = search needs
+
+returns : tie.Need-returns
+unfolding words
+returns c =
+    let q : List ℕ = c .before .before .before .before .before .args .t1 in
+    let n : ℕ = c .before .before .before .before .before .args .n in
+    operation (now (c .before .before .before .before .before .args .p)) q 0 n (n) (c .step .ensures)
+    (mix-f n (getD q 1 0) (getD q 2 0) (getD q 3 0) (search needs))
+    (c .before .before .before .word .ensures)
+    (word-at 0 (λ (n : ℕ). n) tt n (search needs))
+    (c .before .before .sine .ensures)
+    (c .before .shift .ensures .0)
+
+pub op-f-spec : {M : Type 1} → statement M
+op-f-spec =
+    tie.close
+    (tie.spec
+    mul-word
+    word-requires
+    array-read-step
+    array-read-step-2
+    array-read-step-3
+    array-read-step-4
+    add-sine
+    sine-requires
+    add-shift
+    shift-requires
+    step-requires
+    returns)

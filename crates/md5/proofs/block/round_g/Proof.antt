@@ -1,0 +1,95 @@
+-- `md5::block::round_g` meets its contract. Assumes nothing.
+use mathlib.Core.Path.{_≡_}
+use Prim.Native.Nat.{_*_, _-_, _≤_}
+use native.Mathlib.Omega.{arith}
+use denote.Ref.{now}
+use Rattle.md5.specs.Rfc1321.{stepsOf}
+use Rattle.md5.proofs.Operations.{line-none, line-more, lines-all}
+use borrow.Author.Needs.{needs}
+use Rattle.md5.proofs.block.round_g.Statement.{statement}
+use Rattle.md5.proofs.block.round_g.Tie as tie
+
+abbrev Inv-loop : tie.InvT-loop
+Inv-loop p t s q₀ j₀ q j = (j ≤ 4) × (q ≡ stepsOf p 16 (4 * j) q₀)
+
+abbrev μ-loop : tie.MeasureT-loop
+μ-loop p t s q₀ j₀ q j = 4 - j
+
+shift-table-requires : tie.Need-shift-table-requires Inv-loop μ-loop
+shift-table-requires c κs = search needs
+
+loop-holds : tie.Need-loop-holds Inv-loop μ-loop
+loop-holds c = (omega arith, line-none (now (c .before .before .args .p)) 16 (c .before .before .args .st))
+
+mul-op-g : tie.Need-mul-op-g Inv-loop μ-loop
+mul-op-g c = search needs
+
+op-g-requires : tie.Need-op-g-requires Inv-loop μ-loop
+op-g-requires c κs = search needs
+
+mul-op-g-2 : tie.Need-mul-op-g-2 Inv-loop μ-loop
+mul-op-g-2 c = search needs
+
+add-op-g : tie.Need-add-op-g Inv-loop μ-loop
+add-op-g c = search needs
+
+op-g-requires-2 : tie.Need-op-g-requires-2 Inv-loop μ-loop
+op-g-requires-2 c κs = search needs
+
+mul-op-g-3 : tie.Need-mul-op-g-3 Inv-loop μ-loop
+mul-op-g-3 c = search needs
+
+add-op-g-2 : tie.Need-add-op-g-2 Inv-loop μ-loop
+add-op-g-2 c = search needs
+
+op-g-requires-3 : tie.Need-op-g-requires-3 Inv-loop μ-loop
+op-g-requires-3 c κs = search needs
+
+mul-op-g-4 : tie.Need-mul-op-g-4 Inv-loop μ-loop
+mul-op-g-4 c = search needs
+
+add-op-g-3 : tie.Need-add-op-g-3 Inv-loop μ-loop
+add-op-g-3 c = search needs
+
+op-g-requires-4 : tie.Need-op-g-requires-4 Inv-loop μ-loop
+op-g-requires-4 c κs = search needs
+
+add-j : tie.Need-add-j Inv-loop μ-loop
+add-j c = search needs
+
+loop-less : tie.Need-loop-less Inv-loop μ-loop
+loop-less c = search needs
+
+loop-again : tie.Need-loop-again Inv-loop μ-loop
+loop-again c = (
+  omega arith,
+  line-more (now (c .before .before .before .before .before .before .before .before .before .before .before .before .args .p)) 16 (c .before .before .before .before .before .before .before .before .before .before .before .before .args .st) (c .before .before .before .before .before .before .before .before .before .loop .j) (c .before .before .before .before .before .before .before .before .before .loop .inv .1) (c .before .before .before .before .before .before .op-g .ensures) (c .before .before .before .before .op-g2 .ensures)
+      (c .before .before .op-g3 .ensures) (c .op-g4 .ensures),
+)
+
+returns : tie.Need-returns Inv-loop μ-loop
+returns c = lines-all (now (c .before .before .before .before .args .p)) 16 (c .before .before .before .before .args .st) (c .before .loop .j) (omega arith) (c .before .loop .inv .1)
+
+pub round-g-spec : {M : Type 1} → statement M
+round-g-spec =
+    tie.close
+    (tie.spec
+    Inv-loop
+    μ-loop
+    shift-table-requires
+    loop-holds
+    mul-op-g
+    op-g-requires
+    mul-op-g-2
+    add-op-g
+    op-g-requires-2
+    mul-op-g-3
+    add-op-g-2
+    op-g-requires-3
+    mul-op-g-4
+    add-op-g-3
+    op-g-requires-4
+    add-j
+    loop-less
+    loop-again
+    returns)

@@ -1,0 +1,2 @@
+pub mod Rfc1321
+pub mod Pieces
