@@ -4,7 +4,7 @@ set -eu
 here=$(cd "$(dirname "$0")" && pwd -P)
 top=$(dirname "$here")
 cd "$top"
-crates=$(dpkg -L librust-md-5-dev | sed -n 's|/md-5-[^/]*$||p' | head -n 1)
+crates=$(dpkg -L librust-md-5-dev 2>/dev/null | sed -n 's|/[^/]*/Cargo.toml$||p' | head -n 1)
 [ -n "$crates" ] || { echo "the crate md-5 is not installed: see bench/README.md" >&2; exit 2; }
 if [ "$(uname -m)" = x86_64 ]; then
     rt staticlib dulavimorf

@@ -1,11 +1,11 @@
--- Xor is associative, and the register's bit steps are linear over it: so a register's bytes can be looked up apart. Assumes nothing.
-use mathlib.Core.Path.{_≡_, refl, sym, ap, ap₂, _∙_}
+-- Xor is associative, and the register's bit steps are linear over it: so a register's bytes or nibbles can be looked up apart. Assumes nothing.
+use mathlib.Core.Path.{_≡_, refl, ap, ap₂, _∙_}
 use Prim.Native.Nat.{ℕ, zero, suc, _+_, _*_, _/_, _%_, _^_, _<_}
-use native.Mathlib.Nat.{mul-one, mod-lt, suc-add, zero-add, zero-lt-suc}
+use native.Mathlib.Nat.{mul-one, mul-add, mod-lt, suc-add, zero-add, zero-lt-suc}
 use native.Mathlib.Omega.{arith}
 use lib.Arith.{bin-ind}
 use lib.Bits.{bitXor, xor-add-and, xor-shr, xor-mod, xor-comm, xor-zero-r, xor-shifted, shifted-half, shifted-even}
-use lib.Pow.{split}
+use lib.Pow.{pow-pos, split}
 use Rattle.crc32.specs.Crc.{polynomial, bitStep, steps}
 
 -- ---- xor
@@ -61,7 +61,7 @@ unfolding steps
 steps-add zero n x = ap (λ (k : ℕ). steps k x) (zero-add n)
 steps-add (suc m) n x = ap (λ (k : ℕ). steps k x) (suc-add m n) ∙ steps-add m n (bitStep x)
 
--- ---- the low byte and the rest
+-- ---- the low w bits and the rest
 
 step-even : (h n : ℕ) → bitStep (h * 2 ^ suc n) ≡ h * 2 ^ n
 unfolding bitStep
@@ -74,13 +74,13 @@ unfolding steps
 steps-out zero h = mul-one h
 steps-out (suc n) h = ap (steps n) (step-even h n) ∙ steps-out n h
 
-pub steps-byte : (k x : ℕ) → steps (8 * (k + 1)) x ≡ bitXor (steps (8 * k) (x / 256)) (steps (8 * (k + 1)) (x % 256))
-steps-byte k x =
-    let more : 8 * (k + 1) ≡ 8 + 8 * k = omega arith in
+pub steps-low : (w k x : ℕ) → steps (w * (k + 1)) x ≡ bitXor (steps (w * k) (x / 2 ^ w)) (steps (w * (k + 1)) (x % 2 ^ w))
+steps-low w k x =
+    let more : w * (k + 1) ≡ w + w * k = omega (arith, mul-add w k 1) in
     cc (
-      xor-shifted (x / 256) 8 (x % 256) (mod-lt x (zero-lt-suc 255)),
-      split x 8,
-      steps-xor (8 * (k + 1)) (x / 256 * 2 ^ 8) (x % 256),
-      steps-add 8 (8 * k) (x / 256 * 2 ^ 8),
-      steps-out 8 (x / 256),
+      xor-shifted (x / 2 ^ w) w (x % 2 ^ w) (mod-lt x (pow-pos w)),
+      split x w,
+      steps-xor (w * (k + 1)) (x / 2 ^ w * 2 ^ w) (x % 2 ^ w),
+      steps-add w (w * k) (x / 2 ^ w * 2 ^ w),
+      steps-out w (x / 2 ^ w),
     )

@@ -4,7 +4,7 @@ use mathlib.Core.List.{List, _++_}
 use Prim.Native.Nat.{ℕ}
 use Rattle.crc32.specs.declared.Crc32.{Crc32}
 use Rattle.crc32.specs.Crc.{crc32, fresh, feed, finishOf}
-use Rattle.crc32.proofs.Words.{crc-append}
+use Rattle.crc32.proofs.Message.{crc-append}
 
 -- Bytes fed in two parts are the bytes fed at once.
 pub feed-feed : (c : Crc32) (a b : List ℕ) → feed (feed c a) b ≡ feed c (a ++ b)

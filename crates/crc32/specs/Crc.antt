@@ -1,7 +1,7 @@
 -- CRC-32 of IEEE 802.3, bit by bit, and what a `Crc32` of src/ does with bytes that come in parts.
 -- A register is a number below 2 ^ 32, a byte one below 256.
 use mathlib.Core.List.{List, [], _∷_}
-use Prim.Native.Nat.{ℕ, zero, suc, _+_, _*_, _/_, _%_}
+use Prim.Native.Nat.{ℕ, zero, suc, _*_, _/_, _%_}
 use lib.Bits.{bitXor}
 use Rattle.crc32.specs.declared.Crc32.{Crc32}
 

@@ -1,10 +1,9 @@
-// CRC-32 (IEEE 802.3): the checksum of a message that comes whole or in parts, sixteen bytes a step.
+// CRC-32 (IEEE 802.3): the checksum of a message that comes whole or in parts, sixteen bytes a step, or four where it is short.
 ghost use mathlib.Core.Path.{_≡_};
 ghost use Prim.Native.Nat.{_+_, _*_, _≤_, _<_};
-ghost use lib.Bits.{bitXor};
 ghost use lib.ListN.{length, take};
 ghost use Rattle.crc32.specs.Crc.{steps, crcOf, crc32, fresh, feed, finishOf};
-ghost use Rattle.crc32.specs.Table.{Row, Sliced, wordAt};
+ghost use Rattle.crc32.specs.Table.{Sliced, wordAt};
 
 mod table;
 
@@ -19,32 +18,9 @@ fn wide(x: u8) -> u32
     x as u32
 }
 
-// The register after one byte.
-fn byte(r: u32, b: u8, row: &[u32; 256]) -> u32
-    requires { ⌜ Row 0 (now row) ⌝ }
-    ensures { λ q. ⌜ q ≡ steps 8 (bitXor r b) ⌝ }
-{
-    let x = (r ^ wide(b)) % 256;
-    (r >> 8) ^ row[x as usize]
-}
-
-// The register after s, a byte at a time.
-fn bytes(r: u32, s: &[u8], row: &[u32; 256]) -> u32
-    requires { ⌜ Row 0 (now row) ⌝ }
-    ensures { λ q. ⌜ q ≡ crcOf r (now (s .entry)) ⌝ }
-{
-    let mut q = r;
-    let mut i: usize = 0;
-    while i < s.len() {
-        q = byte(q, s[i], row);
-        i += 1;
-    }
-    q
-}
-
-// Entry x of row k.
+// Entry x of row k, over bytes.
 fn entry(t: &[[u32; 256]; 16], k: usize, x: u32) -> u32
-    requires { ⌜ (Sliced (now t)) × (k < 16) × (x < 256) ⌝ }
+    requires { ⌜ (Sliced 8 16 (now t)) × (k < 16) × (x < 256) ⌝ }
     ensures { λ r. ⌜ r ≡ steps (8 * (k + 1)) x ⌝ }
 {
     t[k][x as usize]
@@ -52,7 +28,7 @@ fn entry(t: &[[u32; 256]; 16], k: usize, x: u32) -> u32
 
 // The register x after four bytes of zeros and k more.
 fn four(t: &[[u32; 256]; 16], k: usize, x: u32) -> u32
-    requires { ⌜ (Sliced (now t)) × (k ≤ 12) ⌝ }
+    requires { ⌜ (Sliced 8 16 (now t)) × (k ≤ 12) ⌝ }
     ensures { λ r. ⌜ r ≡ steps (8 * (k + 4)) x ⌝ }
 {
     entry(t, k, x >> 24)
@@ -71,7 +47,7 @@ fn word(s: &[u8], i: usize) -> u32
 
 // The register after the first sixteen bytes of s. What waits for r comes last.
 fn sixteen(r: u32, s: &[u8], t: &[[u32; 256]; 16]) -> u32
-    requires { ⌜ (Sliced (now t)) × (16 ≤ length (now s)) ⌝ }
+    requires { ⌜ (Sliced 8 16 (now t)) × (16 ≤ length (now s)) ⌝ }
     ensures { λ q. ⌜ q ≡ crcOf r (take 16 (now (s .entry))) ⌝ }
 {
     four(t, 0, word(s, 12))
@@ -80,8 +56,72 @@ fn sixteen(r: u32, s: &[u8], t: &[[u32; 256]; 16]) -> u32
         ^ four(t, 12, r ^ word(s, 0))
 }
 
+// Entry x of row k, over nibbles.
+fn nibble(n: &[[u32; 16]; 8], k: usize, x: u32) -> u32
+    requires { ⌜ (Sliced 4 8 (now n)) × (k < 8) × (x < 16) ⌝ }
+    ensures { λ r. ⌜ r ≡ steps (4 * (k + 1)) x ⌝ }
+{
+    n[k][x as usize]
+}
+
+// The register x after a byte of zeros.
+fn byte(x: u32, n: &[[u32; 16]; 8]) -> u32
+    requires { ⌜ Sliced 4 8 (now n) ⌝ }
+    ensures { λ r. ⌜ r ≡ steps 8 x ⌝ }
+{
+    (x >> 8) ^ nibble(n, 0, (x >> 4) % 16) ^ nibble(n, 1, x % 16)
+}
+
+// The register x, of two bytes, after four nibbles of zeros and k more.
+fn half(n: &[[u32; 16]; 8], k: usize, x: u32) -> u32
+    requires { ⌜ (Sliced 4 8 (now n)) × (k ≤ 4) × (x < 65536) ⌝ }
+    ensures { λ r. ⌜ r ≡ steps (4 * (k + 4)) x ⌝ }
+{
+    nibble(n, k, x >> 12)
+        ^ nibble(n, k + 1, (x >> 8) % 16)
+        ^ nibble(n, k + 2, (x >> 4) % 16)
+        ^ nibble(n, k + 3, x % 16)
+}
+
+// The register x after four bytes of zeros.
+fn whole(x: u32, n: &[[u32; 16]; 8]) -> u32
+    requires { ⌜ Sliced 4 8 (now n) ⌝ }
+    ensures { λ r. ⌜ r ≡ steps 32 x ⌝ }
+{
+    half(n, 0, x >> 16) ^ half(n, 4, x % 65536)
+}
+
+// The register after s, a byte at a time.
+fn bytes(r: u32, s: &[u8], n: &[[u32; 16]; 8]) -> u32
+    requires { ⌜ Sliced 4 8 (now n) ⌝ }
+    ensures { λ q. ⌜ q ≡ crcOf r (now (s .entry)) ⌝ }
+{
+    let mut q = r;
+    let mut i: usize = 0;
+    while i < s.len() {
+        q = byte(q ^ wide(s[i]), n);
+        i += 1;
+    }
+    q
+}
+
+// The register after s, a word at a time.
+fn words(r: u32, s: &[u8], n: &[[u32; 16]; 8]) -> u32
+    requires { ⌜ Sliced 4 8 (now n) ⌝ }
+    ensures { λ q. ⌜ q ≡ crcOf r (now (s .entry)) ⌝ }
+{
+    let mut q = r;
+    let mut i: usize = 0;
+    while 4 <= s.len() - i {
+        q = whole(q ^ word(s, i), n);
+        i += 4;
+    }
+    bytes(q, &s[i..], n)
+}
+
 // The register after s, sixteen bytes at a time.
-fn sixteens(r: u32, s: &[u8]) -> u32
+fn sixteens(r: u32, s: &[u8], n: &[[u32; 16]; 8]) -> u32
+    requires { ⌜ Sliced 4 8 (now n) ⌝ }
     ensures { λ q. ⌜ q ≡ crcOf r (now (s .entry)) ⌝ }
 {
     let t = table::tables();
@@ -91,18 +131,18 @@ fn sixteens(r: u32, s: &[u8]) -> u32
         q = sixteen(q, &s[i..i + 16], &t);
         i += 16;
     }
-    bytes(q, &s[i..], &t[0])
+    words(q, &s[i..], n)
 }
 
-// The register after s. Short messages do without the sixteen tables: to lay them out takes the time of some 130 bytes.
+// The register after s. Short messages do without the sixteen tables: to lay them out pays from some 256 bytes on.
 fn register_after(r: u32, s: &[u8]) -> u32
     ensures { λ q. ⌜ q ≡ crcOf r (now (s .entry)) ⌝ }
 {
+    let n = table::nibbles();
     if s.len() < 256 {
-        let row = table::first();
-        return bytes(r, s, &row);
+        return words(r, s, &n);
     }
-    sixteens(r, s)
+    sixteens(r, s, &n)
 }
 
 impl Crc32 {

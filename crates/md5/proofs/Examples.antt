@@ -1,9 +1,15 @@
--- Three of the examples of RFC 1321, appendix A.5, which antt computes from the definitions: "", "abc" and, over two blocks, "A..Za..z0..9".
--- So a constant that was wrong in the definition and in src/ alike would not pass. Assumes nothing.
+-- That the definition is the RFC's: a padded message is whole blocks (3.2), and three of the examples of appendix A.5, which antt computes:
+-- "", "abc" and, over two blocks, "A..Za..z0..9". A constant that was wrong in the definition and in src/ alike would not pass. Assumes nothing.
 use mathlib.Core.Path.{_≡_, refl}
 use mathlib.Core.List.{List, [], _∷_}
-use Prim.Native.Nat.{ℕ}
+use Prim.Native.Nat.{ℕ, _+_, _%_}
+use native.Mathlib.Omega.{arith}
+use lib.ListN.{length, length-append, length-replicate}
 use Rattle.md5.specs.Rfc1321.{md5, run, blocks, padding, paddingBits, lengthBytes, output, blockOf, stepsOf, stepOf, stepWith, mixOf, sines, words, shifts}
+
+pub padded-whole : (n : ℕ) → (n + length (padding n)) % 64 ≡ 0
+unfolding padding paddingBits lengthBytes
+padded-whole n = simp (length-append, length-replicate) (omega arith)
 
 pub empty : md5 [] ≡ 0xd4 ∷ 0x1d ∷ 0x8c ∷ 0xd9 ∷ 0x8f ∷ 0x00 ∷ 0xb2 ∷ 0x04 ∷ 0xe9 ∷ 0x80 ∷ 0x09 ∷ 0x98 ∷ 0xec ∷ 0xf8 ∷ 0x42 ∷ 0x7e ∷ []
 unfolding md5 run blocks padding paddingBits lengthBytes output blockOf stepsOf stepOf stepWith mixOf sines words shifts

@@ -42,20 +42,25 @@ lengthBytes n = wordBytes (bits n % 2 ^ 32) ++ wordBytes (bits n / 2 ^ 32)
 unfoldable pub padding : ℕ → List ℕ
 padding n = paddingBits n ++ lengthBytes n
 
--- ---- 3.3 Initialize MD buffer: the words A, B, C and D
+-- ---- 3.3 Initialize MD buffer
+-- the words A, B, C and D, which the RFC gives by their bytes: 01 23 45 67, 89 ab cd ef, fe dc ba 98, 76 54 32 10
 abbrev pub start : List ℕ
 start = 0x67452301 ∷ 0xefcdab89 ∷ 0x98badcfe ∷ 0x10325476 ∷ []
 
 -- ---- 3.4 Process message in 16-word blocks
+-- F(X,Y,Z) = XY v not(X) Z
 abbrev pub mixF : ℕ → ℕ → ℕ → ℕ
 mixF x y z = bitOr (bitAnd x y) (bitAnd (not32 x) z)
 
+-- G(X,Y,Z) = XZ v Y not(Z)
 abbrev pub mixG : ℕ → ℕ → ℕ → ℕ
 mixG x y z = bitOr (bitAnd x z) (bitAnd y (not32 z))
 
+-- H(X,Y,Z) = X xor Y xor Z
 abbrev pub mixH : ℕ → ℕ → ℕ → ℕ
 mixH x y z = bitXor (bitXor x y) z
 
+-- I(X,Y,Z) = Y xor (X v not(Z))
 abbrev pub mixI : ℕ → ℕ → ℕ → ℕ
 mixI x y z = bitXor y (bitOr x (not32 z))
 

@@ -1,5 +1,5 @@
 -- `crc32::four` meets its contract. Assumes nothing.
-use Rattle.crc32.proofs.Words.{four-law}
+use Rattle.crc32.proofs.Message.{four-law}
 use Rattle.crc32.proofs.four.Statement.{statement}
 use borrow.Author.Needs.{needs}
 use Rattle.crc32.proofs.four.Tie as tie
@@ -28,6 +28,7 @@ entry-requires-4 c κs = search needs
 returns : tie.Need-returns
 returns c =
     four-law
+    8
     _
     _
     (c .before .before .before .entry .ensures)

@@ -1,5 +1,5 @@
 -- `crc32::sixteen` meets its contract. Assumes nothing.
-use Rattle.crc32.proofs.Words.{sixteen-law}
+use Rattle.crc32.proofs.Message.{sixteen-law}
 use Rattle.crc32.proofs.sixteen.Statement.{statement}
 use borrow.Author.Needs.{needs}
 use Rattle.crc32.proofs.sixteen.Tie as tie

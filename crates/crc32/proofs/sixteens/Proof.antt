@@ -1,20 +1,19 @@
 -- `crc32::sixteens` meets its contract: the register and the bytes that are left give what the whole gives. Assumes nothing.
 use Prim.Native.Nat.{ℕ, _-_, _≤_}
-use Rattle.crc32.proofs.Words.{crc-part}
+use Rattle.crc32.proofs.Message.{crc-part, crc-rest}
 use Rattle.crc32.proofs.sixteens.Statement.{statement}
 use Rattle.crc32.specs.Crc.{crcOf}
 use lib.ListN.{length, drop, length-take, length-drop}
-use lib.Seq.{take-all}
 use mathlib.Core.List.{List}
-use mathlib.Core.Path.{_≡_, refl, ap, _∙_}
+use mathlib.Core.Path.{_≡_, refl, _∙_}
 use native.Mathlib.Omega.{arith}
 use Rattle.crc32.proofs.sixteens.Tie as tie
 
 abbrev Inv-loop : tie.InvT-loop
-Inv-loop r s t q₀ i₀ q i = (i ≤ length s) × (crcOf q (drop i s) ≡ crcOf r s)
+Inv-loop r s n t q₀ i₀ q i = (i ≤ length s) × (crcOf q (drop i s) ≡ crcOf r s)
 
 abbrev μ-loop : tie.MeasureT-loop
-μ-loop r s t q₀ i₀ q i = length s - i
+μ-loop r s n t q₀ i₀ q i = length s - i
 
 tables-requires : tie.Need-tables-requires Inv-loop μ-loop
 tables-requires c κs = tt
@@ -51,26 +50,22 @@ loop-again c =
     let s : List ℕ = c .before .before .before .before .before .before .before .args .s .now in
     (omega arith, crc-part s (c .before .before .before .before .loop .i) _ 16 (c .sixteen .ensures) ∙ c .before .before .before .before .loop .inv .1)
 
-sub-bytes : tie.Need-sub-bytes Inv-loop μ-loop
-sub-bytes c = omega arith
+sub-words : tie.Need-sub-words Inv-loop μ-loop
+sub-words c = omega arith
 
-part-bytes-start : tie.Need-part-bytes-start Inv-loop μ-loop
-part-bytes-start c = omega arith
+part-words-start : tie.Need-part-words-start Inv-loop μ-loop
+part-words-start c = omega arith
 
-part-bytes-end : tie.Need-part-bytes-end Inv-loop μ-loop
-part-bytes-end c = omega arith
+part-words-end : tie.Need-part-words-end Inv-loop μ-loop
+part-words-end c = omega arith
 
-index-1-bytes : tie.Need-index-1-bytes Inv-loop μ-loop
-index-1-bytes c = omega arith
-
-bytes-requires : tie.Need-bytes-requires Inv-loop μ-loop
-bytes-requires c κs = c .before .before .before .before .tables .ensures .row 0 (omega arith)
+words-requires : tie.Need-words-requires Inv-loop μ-loop
+words-requires c κs = c .before .before .before .before .before .pre
 
 returns : tie.Need-returns Inv-loop μ-loop
 returns c =
-    let s : List ℕ = c .before .before .before .before .before .before .before .args .s .now in
-    let i : ℕ = c .before .before .before .before .loop .i in
-    c .bytes .ensures ∙ ap (crcOf _) (take-all (length s - i) (drop i s) (simp length-drop (omega arith))) ∙ c .before .before .before .before .loop .inv .1
+    let s : List ℕ = c .before .before .before .before .before .before .args .s .now in
+    crc-rest s (c .before .before .before .loop .i) _ (c .words .ensures) ∙ c .before .before .before .loop .inv .1
 
 pub sixteens-spec : {M : Type 1} → statement M
 sixteens-spec =
@@ -89,9 +84,8 @@ sixteens-spec =
     add-i
     loop-less
     loop-again
-    sub-bytes
-    part-bytes-start
-    part-bytes-end
-    index-1-bytes
-    bytes-requires
+    sub-words
+    part-words-start
+    part-words-end
+    words-requires
     returns)

@@ -1,16 +1,16 @@
--- How the bytes of a message go into the register: one by a table's row, a word by four rows, sixteen as four words apart. Assumes nothing.
+-- How the bytes of a message go into the register: one, or a word, by the rows of a table, and sixteen as four words apart. Assumes nothing.
 use mathlib.Core.Path.{_≡_, refl, sym, ap, _∙_}
 use mathlib.Core.List.{List, [], _∷_, _++_}
-use Prim.Native.Nat.{ℕ, _+_, _-_, _*_, _/_, _%_, _^_, _≤_, _<_}
-use native.Mathlib.Nat.{div-eq-of-lt}
+use Prim.Native.Nat.{ℕ, suc, _+_, _-_, _*_, _/_, _%_, _^_, _≤_, _<_}
 use native.Mathlib.Numerals.{add-one}
 use native.Mathlib.Omega.{arith}
-use lib.Bits.{bitXor, xor-shr, xor-comm, xor-zero-r, xor-shifted}
-use lib.ListN.{length, getD, take, drop, take-append-drop, drop-of-length-le}
-use lib.Seq.{drop-cons, drop-drop, take-take}
+use lib.Bits.{bitXor, xor-comm, xor-shifted}
+use lib.ListN.{length, getD, take, drop, take-append-drop, length-drop, drop-of-length-le}
+use lib.Pow.{shr-shr}
+use lib.Seq.{drop-cons, drop-drop, take-take, take-all}
 use Rattle.crc32.specs.Crc.{steps, crcOf}
 use Rattle.crc32.specs.Table.{wordAt}
-use Rattle.crc32.proofs.Linear.{xor-assoc, steps-xor, steps-add, steps-out, steps-byte}
+use Rattle.crc32.proofs.Linear.{xor-assoc, steps-xor, steps-add, steps-out, steps-low}
 use Rattle.crc32.proofs.Lists.{firsts, take-firsts}
 
 -- ---- parts of a message
@@ -25,40 +25,48 @@ crc-append r [] b = refl
 crc-append r (x ∷ a) b = crc-append (steps 8 (bitXor r x)) a b
 
 -- the byte at i, and then the rest
-pub crc-next : (s : List ℕ) (i q : ℕ) {u : ℕ} → i < length s → u ≡ steps 8 (bitXor q (getD s i 0)) → crcOf u (drop (i + 1) s) ≡ crcOf q (drop i s)
+pub crc-next : (s : List ℕ) (i q : ℕ) {b u : ℕ} → i < length s → b ≡ getD s i 0 → u ≡ steps 8 (bitXor q b) → crcOf u (drop (i + 1) s) ≡ crcOf q (drop i s)
 unfolding crcOf
-crc-next s i q h e = rw (e, add-one, drop-cons s i 0)
+crc-next s i q h eb eu = rw (eu, eb, add-one, drop-cons s i 0)
 
 -- n bytes from i on, and then the rest
 pub crc-part : (s : List ℕ) (i q n : ℕ) {u : ℕ} → u ≡ crcOf q (take n (take (i + n - i) (drop i s))) → crcOf u (drop (i + n) s) ≡ crcOf q (drop i s)
 crc-part s i q n e = rw (e, take-take n (i + n - i) (drop i s) (omega arith), ← crc-append, ← drop-drop, take-append-drop)
+
+-- all the bytes from i on
+pub crc-rest : (s : List ℕ) (i q : ℕ) {u : ℕ} → u ≡ crcOf q (take (length s - i) (drop i s)) → u ≡ crcOf q (drop i s)
+crc-rest s i q e = e ∙ ap (crcOf q) (take-all (length s - i) (drop i s) (simp length-drop (omega arith)))
 
 pub crc-end : (s : List ℕ) (i q : ℕ) → length s ≤ i → crcOf q (drop i s) ≡ q
 crc-end s i q h = rw drop-of-length-le (crc-nil q)
 
 -- ---- by the tables
 
-pub byte-law : (r b : ℕ) → b < 256 → bitXor (r / 256) (steps 8 (bitXor r b % 256)) ≡ steps 8 (bitXor r b)
+pub byte-law : (x : ℕ) {p q : ℕ} → p ≡ steps 4 (x / 2 ^ 4 % 2 ^ 4) → q ≡ steps 8 (x % 2 ^ 4) → bitXor (bitXor (x / 2 ^ 8) p) q ≡ steps 8 x
 unfolding steps
-byte-law r b h =
-    sym (steps-byte 0 (bitXor r b)
-    ∙ ap (λ (u : ℕ). bitXor u (steps 8 (bitXor r b % 256)))
-    (xor-shr r b 8 ∙ ap (bitXor (r / 256)) (div-eq-of-lt h) ∙ xor-zero-r (r / 256)))
+byte-law x hp hq = cc (steps-low 4 1 x, steps-low 4 0 (x / 2 ^ 4), shr-shr x 4 4)
 
--- each byte of x by the row for the bytes after it
-pub four-law : (k x : ℕ) {p q r s : ℕ}
-    → p ≡ steps (8 * (k + 1)) (x / 2 ^ 24)
-    → q ≡ steps (8 * (k + 1 + 1)) (x / 2 ^ 16 % 256)
-    → r ≡ steps (8 * (k + 2 + 1)) (x / 2 ^ 8 % 256)
-    → s ≡ steps (8 * (k + 3 + 1)) (x % 256)
-    → bitXor (bitXor (bitXor p q) r) s ≡ steps (8 * (k + 4)) x
-four-law k x hp hq hr hs =
+pub whole-law : (x : ℕ) {p q : ℕ} → p ≡ steps 16 (x / 2 ^ 16) → q ≡ steps 32 (x % 2 ^ 16) → bitXor p q ≡ steps 32 x
+whole-law x hp hq = cc (steps-low 16 1 x)
+
+-- each w bits of x by the row for the bits after them
+pub four-law : (w k x : ℕ) {p q r s : ℕ}
+    → p ≡ steps (w * (k + 1)) (x / 2 ^ (w + w + w))
+    → q ≡ steps (w * (k + 1 + 1)) (x / 2 ^ (w + w) % 2 ^ w)
+    → r ≡ steps (w * (k + 2 + 1)) (x / 2 ^ w % 2 ^ w)
+    → s ≡ steps (w * (k + 3 + 1)) (x % 2 ^ w)
+    → bitXor (bitXor (bitXor p q) r) s ≡ steps (w * (k + 4)) x
+four-law w k x hp hq hr hs =
     let n₂ : k + 1 + 1 ≡ k + 2 = omega arith in
     let n₃ : k + 2 + 1 ≡ k + 3 = omega arith in
     let n₄ : k + 3 + 1 ≡ k + 4 = omega arith in
-    let d₂ : x / 2 ^ 8 / 256 ≡ x / 2 ^ 16 = omega arith in
-    let d₃ : x / 2 ^ 16 / 256 ≡ x / 2 ^ 24 = omega arith in
-    cc (steps-byte (k + 3) x, steps-byte (k + 2) (x / 2 ^ 8), steps-byte (k + 1) (x / 2 ^ 16))
+    cc (
+      steps-low w (k + 3) x,
+      steps-low w (k + 2) (x / 2 ^ w),
+      steps-low w (k + 1) (x / 2 ^ (w + w)),
+      shr-shr x w w,
+      shr-shr x (w + w) w,
+    )
 
 -- ---- words
 
@@ -91,6 +99,27 @@ word-law r d bs {a} {b} {c} ha hb hc =
     ap (λ (p : ℕ). crcOf p bs)
     (join 8 (steps 8 (bitXor q b)) c d hc ∙ join 16 q b m hb ∙ join 24 r a (m * 2 ^ 8 + b) ha
     ∙ ap (λ (w : ℕ). steps 32 (bitXor r w)) sum)
+
+-- the word at i, and then the rest
+pub crc-word : (s : List ℕ) (i q : ℕ) {w u : ℕ} → i + 4 ≤ length s → ((j : ℕ) → getD s j 0 < 256)
+    → w ≡ wordAt s i → u ≡ steps 32 (bitXor q w) → crcOf u (drop (i + 4) s) ≡ crcOf q (drop i s)
+crc-word s i q h bytes ew eu =
+    let n₂ : i + 2 ≡ suc (i + 1) = omega arith in
+    let n₃ : i + 3 ≡ suc (i + 2) = omega arith in
+    let n₄ : i + 4 ≡ suc (i + 3) = omega arith in
+    rw (
+      eu,
+      ew,
+      drop-cons s i 0 (omega arith),
+      ← add-one i,
+      drop-cons s (i + 1) 0 (omega arith),
+      ← n₂,
+      drop-cons s (i + 2) 0 (omega arith),
+      ← n₃,
+      drop-cons s (i + 3) 0 (omega arith),
+      ← n₄,
+    )
+    (sym (word-law q _ _ (bytes i) (bytes (i + 1)) (bytes (i + 2))))
 
 words-law : (x a b c : ℕ)
     → steps 32 (bitXor (steps 32 (bitXor (steps 32 (bitXor (steps 32 x) a)) b)) c)
