@@ -12,6 +12,7 @@ pub struct Crc32 {
     pub register: u32,
 }
 
+// A byte as a word.
 fn wide(x: u8) -> u32
     ensures { λ r. ⌜ (r ≡ x) × (r < 256) ⌝ }
 {

@@ -148,15 +148,16 @@ module _ (p : List ℕ) (i : ℕ) (st : List ℕ) where
 
   pub line-more : (j : ℕ) {q a b c d : List ℕ}
       → q ≡ stepsOf p i (4 * j) st
-      → a ≡ stepOf p (i + 4 * j) q
+      → a ≡ stepOf p (i + (4 * j + 0)) q
       → d ≡ stepOf p (i + (4 * j + 1)) a
       → c ≡ stepOf p (i + (4 * j + 2)) d
       → b ≡ stepOf p (i + (4 * j + 3)) c
       → b ≡ stepsOf p i (4 * (j + 1)) st
   line-more j eq ea ed ec eb =
+      let first : 4 * j ≡ 4 * j + 0 = omega arith in
       step-more (4 * j + 3) (4 * (j + 1)) (omega arith)
       (step-more (4 * j + 2) (4 * j + 3) (omega arith)
-      (step-more (4 * j + 1) (4 * j + 2) (omega arith) (step-more (4 * j) (4 * j + 1) refl eq ea) ed) ec) eb
+      (step-more (4 * j + 1) (4 * j + 2) (omega arith) (step-more (4 * j + 0) (4 * j + 1) (omega arith) (eq ∙ ap (λ (n : ℕ). stepsOf p i n st) first) ea) ed) ec) eb
 
   pub lines-all : (j : ℕ) {q : List ℕ} → j ≡ 4 → q ≡ stepsOf p i (4 * j) st → q ≡ stepsOf p i 16 st
   lines-all j e eq = eq ∙ ap (λ (n : ℕ). stepsOf p i n st) (omega arith)

@@ -168,6 +168,7 @@ fn shift(s: &[u32; 64], i: usize) -> u32
     s[i]
 }
 
+// A byte as a word.
 fn wide(x: u8) -> u32
     ensures { λ r. ⌜ (r ≡ x) × (r < 256) ⌝ }
 {
@@ -209,12 +210,13 @@ fn step(q: [u32; 4], f: u32, x: u32, t: u32, s: u32) -> [u32; 4]
     [q[3], a, q[1], q[2]]
 }
 
-// Operation n of the round of F.
-fn op_f(q: [u32; 4], p: &[u8], n: usize, t: &[u32; 64], s: &[u32; 64]) -> [u32; 4]
-    requires { ⌜ (64 ≤ length (now p)) × (n < 16) × (now t ≡ sines) × (now s ≡ shifts) ⌝ }
-    ensures { λ r. ⌜ r ≡ stepOf (now (p .entry)) (0 + n) q ⌝ }
+// Operation k of line j of the round of F.
+fn op_f(q: [u32; 4], p: &[u8], j: usize, k: usize, t: &[u32; 64], s: &[u32; 64]) -> [u32; 4]
+    requires { ⌜ (64 ≤ length (now p)) × (j < 4) × (k < 4) × (now t ≡ sines) × (now s ≡ shifts) ⌝ }
+    ensures { λ r. ⌜ r ≡ stepOf (now (p .entry)) (0 + (4 * j + k)) q ⌝ }
 {
-    let x = word(p, 4 * (n));
+    let n = 4 * j + k;
+    let x = word(p, 4 * n);
     step(
         q,
         (q[1] & q[2]) | (!q[1] & q[3]),
@@ -224,11 +226,12 @@ fn op_f(q: [u32; 4], p: &[u8], n: usize, t: &[u32; 64], s: &[u32; 64]) -> [u32; 
     )
 }
 
-// Operation n of the round of G. Its two parts have no bit in common, so that they are added, the one that waits for b last.
-fn op_g(q: [u32; 4], p: &[u8], n: usize, t: &[u32; 64], s: &[u32; 64]) -> [u32; 4]
-    requires { ⌜ (64 ≤ length (now p)) × (n < 16) × (now t ≡ sines) × (now s ≡ shifts) ⌝ }
-    ensures { λ r. ⌜ r ≡ stepOf (now (p .entry)) (16 + n) q ⌝ }
+// Operation k of line j of the round of G. Its two parts have no bit in common, so that they are added, the one that waits for b last.
+fn op_g(q: [u32; 4], p: &[u8], j: usize, k: usize, t: &[u32; 64], s: &[u32; 64]) -> [u32; 4]
+    requires { ⌜ (64 ≤ length (now p)) × (j < 4) × (k < 4) × (now t ≡ sines) × (now s ≡ shifts) ⌝ }
+    ensures { λ r. ⌜ r ≡ stepOf (now (p .entry)) (16 + (4 * j + k)) q ⌝ }
 {
+    let n = 4 * j + k;
     let x = word(p, 4 * ((1 + 5 * n) % 16));
     step(
         q,
@@ -239,20 +242,22 @@ fn op_g(q: [u32; 4], p: &[u8], n: usize, t: &[u32; 64], s: &[u32; 64]) -> [u32; 
     )
 }
 
-// Operation n of the round of H.
-fn op_h(q: [u32; 4], p: &[u8], n: usize, t: &[u32; 64], s: &[u32; 64]) -> [u32; 4]
-    requires { ⌜ (64 ≤ length (now p)) × (n < 16) × (now t ≡ sines) × (now s ≡ shifts) ⌝ }
-    ensures { λ r. ⌜ r ≡ stepOf (now (p .entry)) (32 + n) q ⌝ }
+// Operation k of line j of the round of H.
+fn op_h(q: [u32; 4], p: &[u8], j: usize, k: usize, t: &[u32; 64], s: &[u32; 64]) -> [u32; 4]
+    requires { ⌜ (64 ≤ length (now p)) × (j < 4) × (k < 4) × (now t ≡ sines) × (now s ≡ shifts) ⌝ }
+    ensures { λ r. ⌜ r ≡ stepOf (now (p .entry)) (32 + (4 * j + k)) q ⌝ }
 {
+    let n = 4 * j + k;
     let x = word(p, 4 * ((5 + 3 * n) % 16));
     step(q, q[1] ^ q[2] ^ q[3], x, sine(t, 32 + n), shift(s, 32 + n))
 }
 
-// Operation n of the round of I.
-fn op_i(q: [u32; 4], p: &[u8], n: usize, t: &[u32; 64], s: &[u32; 64]) -> [u32; 4]
-    requires { ⌜ (64 ≤ length (now p)) × (n < 16) × (now t ≡ sines) × (now s ≡ shifts) ⌝ }
-    ensures { λ r. ⌜ r ≡ stepOf (now (p .entry)) (48 + n) q ⌝ }
+// Operation k of line j of the round of I.
+fn op_i(q: [u32; 4], p: &[u8], j: usize, k: usize, t: &[u32; 64], s: &[u32; 64]) -> [u32; 4]
+    requires { ⌜ (64 ≤ length (now p)) × (j < 4) × (k < 4) × (now t ≡ sines) × (now s ≡ shifts) ⌝ }
+    ensures { λ r. ⌜ r ≡ stepOf (now (p .entry)) (48 + (4 * j + k)) q ⌝ }
 {
+    let n = 4 * j + k;
     let x = word(p, 4 * (7 * n % 16));
     step(
         q,
@@ -263,7 +268,8 @@ fn op_i(q: [u32; 4], p: &[u8], n: usize, t: &[u32; 64], s: &[u32; 64]) -> [u32; 
     )
 }
 
-// Round 1: four lines of four operations.
+// Round 1: four lines of four operations. Each round is a function of its own, in which the operation is fixed: one function over the
+// number of the round is not inlined, and ran a fifth slower.
 fn round_f(st: [u32; 4], p: &[u8], t: &[u32; 64]) -> [u32; 4]
     requires { ⌜ (64 ≤ length (now p)) × (now t ≡ sines) ⌝ }
     ensures { λ r. ⌜ r ≡ stepsOf (now (p .entry)) 0 16 st ⌝ }
@@ -272,17 +278,17 @@ fn round_f(st: [u32; 4], p: &[u8], t: &[u32; 64]) -> [u32; 4]
     let mut q = st;
     let mut j: usize = 0;
     while j < 4 {
-        let a = op_f(q, p, 4 * j, t, &s);
-        let d = op_f(a, p, 4 * j + 1, t, &s);
-        let c = op_f(d, p, 4 * j + 2, t, &s);
-        let b = op_f(c, p, 4 * j + 3, t, &s);
+        let a = op_f(q, p, j, 0, t, &s);
+        let d = op_f(a, p, j, 1, t, &s);
+        let c = op_f(d, p, j, 2, t, &s);
+        let b = op_f(c, p, j, 3, t, &s);
         q = b;
         j += 1;
     }
     q
 }
 
-// Round 2: four lines of four operations.
+// Round 2.
 fn round_g(st: [u32; 4], p: &[u8], t: &[u32; 64]) -> [u32; 4]
     requires { ⌜ (64 ≤ length (now p)) × (now t ≡ sines) ⌝ }
     ensures { λ r. ⌜ r ≡ stepsOf (now (p .entry)) 16 16 st ⌝ }
@@ -291,17 +297,17 @@ fn round_g(st: [u32; 4], p: &[u8], t: &[u32; 64]) -> [u32; 4]
     let mut q = st;
     let mut j: usize = 0;
     while j < 4 {
-        let a = op_g(q, p, 4 * j, t, &s);
-        let d = op_g(a, p, 4 * j + 1, t, &s);
-        let c = op_g(d, p, 4 * j + 2, t, &s);
-        let b = op_g(c, p, 4 * j + 3, t, &s);
+        let a = op_g(q, p, j, 0, t, &s);
+        let d = op_g(a, p, j, 1, t, &s);
+        let c = op_g(d, p, j, 2, t, &s);
+        let b = op_g(c, p, j, 3, t, &s);
         q = b;
         j += 1;
     }
     q
 }
 
-// Round 3: four lines of four operations.
+// Round 3.
 fn round_h(st: [u32; 4], p: &[u8], t: &[u32; 64]) -> [u32; 4]
     requires { ⌜ (64 ≤ length (now p)) × (now t ≡ sines) ⌝ }
     ensures { λ r. ⌜ r ≡ stepsOf (now (p .entry)) 32 16 st ⌝ }
@@ -310,17 +316,17 @@ fn round_h(st: [u32; 4], p: &[u8], t: &[u32; 64]) -> [u32; 4]
     let mut q = st;
     let mut j: usize = 0;
     while j < 4 {
-        let a = op_h(q, p, 4 * j, t, &s);
-        let d = op_h(a, p, 4 * j + 1, t, &s);
-        let c = op_h(d, p, 4 * j + 2, t, &s);
-        let b = op_h(c, p, 4 * j + 3, t, &s);
+        let a = op_h(q, p, j, 0, t, &s);
+        let d = op_h(a, p, j, 1, t, &s);
+        let c = op_h(d, p, j, 2, t, &s);
+        let b = op_h(c, p, j, 3, t, &s);
         q = b;
         j += 1;
     }
     q
 }
 
-// Round 4: four lines of four operations.
+// Round 4.
 fn round_i(st: [u32; 4], p: &[u8], t: &[u32; 64]) -> [u32; 4]
     requires { ⌜ (64 ≤ length (now p)) × (now t ≡ sines) ⌝ }
     ensures { λ r. ⌜ r ≡ stepsOf (now (p .entry)) 48 16 st ⌝ }
@@ -329,10 +335,10 @@ fn round_i(st: [u32; 4], p: &[u8], t: &[u32; 64]) -> [u32; 4]
     let mut q = st;
     let mut j: usize = 0;
     while j < 4 {
-        let a = op_i(q, p, 4 * j, t, &s);
-        let d = op_i(a, p, 4 * j + 1, t, &s);
-        let c = op_i(d, p, 4 * j + 2, t, &s);
-        let b = op_i(c, p, 4 * j + 3, t, &s);
+        let a = op_i(q, p, j, 0, t, &s);
+        let d = op_i(a, p, j, 1, t, &s);
+        let c = op_i(d, p, j, 2, t, &s);
+        let b = op_i(c, p, j, 3, t, &s);
         q = b;
         j += 1;
     }

@@ -1,6 +1,7 @@
 -- `md5::block::op_f` meets its contract. Assumes nothing.
 use mathlib.Core.List.{List}
 use Prim.Native.Nat.{ℕ, _+_, _*_, _%_}
+use native.Mathlib.Omega.{arith}
 use denote.Ref.{now}
 use lib.ListN.{getD}
 use Rattle.md5.specs.Rfc1321.{words}
@@ -8,6 +9,12 @@ use Rattle.md5.proofs.Operations.{operation, mix-f, word-at}
 use borrow.Author.Needs.{needs}
 use Rattle.md5.proofs.block.op_f.Statement.{statement}
 use Rattle.md5.proofs.block.op_f.Tie as tie
+
+mul-n : tie.Need-mul-n
+mul-n c = search needs
+
+add-n : tie.Need-add-n
+add-n c = search needs
 
 mul-word : tie.Need-mul-word
 mul-word c = search needs
@@ -46,11 +53,11 @@ returns : tie.Need-returns
 unfolding words
 returns c =
     let q : List ℕ = c .before .before .before .before .before .args .t1 in
-    let n : ℕ = c .before .before .before .before .before .args .n in
+    let n : ℕ = 4 * c .before .before .before .before .before .args .j + c .before .before .before .before .before .args .k in
     operation (now (c .before .before .before .before .before .args .p)) q 0 n (n) (c .step .ensures)
-    (mix-f n (getD q 1 0) (getD q 2 0) (getD q 3 0) (search needs))
+    (mix-f n (getD q 1 0) (getD q 2 0) (getD q 3 0) (omega arith))
     (c .before .before .before .word .ensures)
-    (word-at 0 (λ (n : ℕ). n) tt n (search needs))
+    (word-at 0 (λ (n : ℕ). n) tt n (omega arith))
     (c .before .before .sine .ensures)
     (c .before .shift .ensures .0)
 
@@ -58,6 +65,8 @@ pub op-f-spec : {M : Type 1} → statement M
 op-f-spec =
     tie.close
     (tie.spec
+    mul-n
+    add-n
     mul-word
     word-requires
     array-read-step

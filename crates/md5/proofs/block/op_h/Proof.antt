@@ -1,6 +1,7 @@
 -- `md5::block::op_h` meets its contract. Assumes nothing.
 use mathlib.Core.List.{List}
 use Prim.Native.Nat.{ℕ, _+_, _*_, _%_}
+use native.Mathlib.Omega.{arith}
 use denote.Ref.{now}
 use lib.ListN.{getD}
 use Rattle.md5.specs.Rfc1321.{words}
@@ -8,6 +9,12 @@ use Rattle.md5.proofs.Operations.{operation, mix-h, word-at}
 use borrow.Author.Needs.{needs}
 use Rattle.md5.proofs.block.op_h.Statement.{statement}
 use Rattle.md5.proofs.block.op_h.Tie as tie
+
+mul-n : tie.Need-mul-n
+mul-n c = search needs
+
+add-n : tie.Need-add-n
+add-n c = search needs
 
 mul-word : tie.Need-mul-word
 mul-word c = search needs
@@ -49,11 +56,11 @@ returns : tie.Need-returns
 unfolding words
 returns c =
     let q : List ℕ = c .before .before .before .before .before .args .t1 in
-    let n : ℕ = c .before .before .before .before .before .args .n in
+    let n : ℕ = 4 * c .before .before .before .before .before .args .j + c .before .before .before .before .before .args .k in
     operation (now (c .before .before .before .before .before .args .p)) q 32 n ((5 + 3 * n) % 16) (c .step .ensures)
-    (mix-h n (getD q 1 0) (getD q 2 0) (getD q 3 0) (search needs))
+    (mix-h n (getD q 1 0) (getD q 2 0) (getD q 3 0) (omega arith))
     (c .before .before .before .word .ensures)
-    (word-at 32 (λ (n : ℕ). (5 + 3 * n) % 16) tt n (search needs))
+    (word-at 32 (λ (n : ℕ). (5 + 3 * n) % 16) tt n (omega arith))
     (c .before .before .sine .ensures)
     (c .before .shift .ensures .0)
 
@@ -61,6 +68,8 @@ pub op-h-spec : {M : Type 1} → statement M
 op-h-spec =
     tie.close
     (tie.spec
+    mul-n
+    add-n
     mul-word
     add-word
     mul-word-2

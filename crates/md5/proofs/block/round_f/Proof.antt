@@ -1,4 +1,4 @@
--- `md5::block::round_f` meets its contract. Assumes nothing.
+-- `md5::block::round_f` meets its contract: each turn of its loop is a line of four operations. Assumes nothing.
 use mathlib.Core.Path.{_≡_}
 use Prim.Native.Nat.{_*_, _-_, _≤_}
 use native.Mathlib.Omega.{arith}
@@ -21,35 +21,14 @@ shift-table-requires c κs = search needs
 loop-holds : tie.Need-loop-holds Inv-loop μ-loop
 loop-holds c = (omega arith, line-none (now (c .before .before .args .p)) 0 (c .before .before .args .st))
 
-mul-op-f : tie.Need-mul-op-f Inv-loop μ-loop
-mul-op-f c = search needs
-
 op-f-requires : tie.Need-op-f-requires Inv-loop μ-loop
 op-f-requires c κs = search needs
-
-mul-op-f-2 : tie.Need-mul-op-f-2 Inv-loop μ-loop
-mul-op-f-2 c = search needs
-
-add-op-f : tie.Need-add-op-f Inv-loop μ-loop
-add-op-f c = search needs
 
 op-f-requires-2 : tie.Need-op-f-requires-2 Inv-loop μ-loop
 op-f-requires-2 c κs = search needs
 
-mul-op-f-3 : tie.Need-mul-op-f-3 Inv-loop μ-loop
-mul-op-f-3 c = search needs
-
-add-op-f-2 : tie.Need-add-op-f-2 Inv-loop μ-loop
-add-op-f-2 c = search needs
-
 op-f-requires-3 : tie.Need-op-f-requires-3 Inv-loop μ-loop
 op-f-requires-3 c κs = search needs
-
-mul-op-f-4 : tie.Need-mul-op-f-4 Inv-loop μ-loop
-mul-op-f-4 c = search needs
-
-add-op-f-3 : tie.Need-add-op-f-3 Inv-loop μ-loop
-add-op-f-3 c = search needs
 
 op-f-requires-4 : tie.Need-op-f-requires-4 Inv-loop μ-loop
 op-f-requires-4 c κs = search needs
@@ -78,16 +57,9 @@ round-f-spec =
     μ-loop
     shift-table-requires
     loop-holds
-    mul-op-f
     op-f-requires
-    mul-op-f-2
-    add-op-f
     op-f-requires-2
-    mul-op-f-3
-    add-op-f-2
     op-f-requires-3
-    mul-op-f-4
-    add-op-f-3
     op-f-requires-4
     add-j
     loop-less

@@ -1,4 +1,4 @@
--- `md5::block::round_g` meets its contract. Assumes nothing.
+-- `md5::block::round_g` meets its contract: each turn of its loop is a line of four operations. Assumes nothing.
 use mathlib.Core.Path.{_≡_}
 use Prim.Native.Nat.{_*_, _-_, _≤_}
 use native.Mathlib.Omega.{arith}
@@ -21,35 +21,14 @@ shift-table-requires c κs = search needs
 loop-holds : tie.Need-loop-holds Inv-loop μ-loop
 loop-holds c = (omega arith, line-none (now (c .before .before .args .p)) 16 (c .before .before .args .st))
 
-mul-op-g : tie.Need-mul-op-g Inv-loop μ-loop
-mul-op-g c = search needs
-
 op-g-requires : tie.Need-op-g-requires Inv-loop μ-loop
 op-g-requires c κs = search needs
-
-mul-op-g-2 : tie.Need-mul-op-g-2 Inv-loop μ-loop
-mul-op-g-2 c = search needs
-
-add-op-g : tie.Need-add-op-g Inv-loop μ-loop
-add-op-g c = search needs
 
 op-g-requires-2 : tie.Need-op-g-requires-2 Inv-loop μ-loop
 op-g-requires-2 c κs = search needs
 
-mul-op-g-3 : tie.Need-mul-op-g-3 Inv-loop μ-loop
-mul-op-g-3 c = search needs
-
-add-op-g-2 : tie.Need-add-op-g-2 Inv-loop μ-loop
-add-op-g-2 c = search needs
-
 op-g-requires-3 : tie.Need-op-g-requires-3 Inv-loop μ-loop
 op-g-requires-3 c κs = search needs
-
-mul-op-g-4 : tie.Need-mul-op-g-4 Inv-loop μ-loop
-mul-op-g-4 c = search needs
-
-add-op-g-3 : tie.Need-add-op-g-3 Inv-loop μ-loop
-add-op-g-3 c = search needs
 
 op-g-requires-4 : tie.Need-op-g-requires-4 Inv-loop μ-loop
 op-g-requires-4 c κs = search needs
@@ -78,16 +57,9 @@ round-g-spec =
     μ-loop
     shift-table-requires
     loop-holds
-    mul-op-g
     op-g-requires
-    mul-op-g-2
-    add-op-g
     op-g-requires-2
-    mul-op-g-3
-    add-op-g-2
     op-g-requires-3
-    mul-op-g-4
-    add-op-g-3
     op-g-requires-4
     add-j
     loop-less

@@ -1,4 +1,4 @@
--- `md5::block::round_h` meets its contract. Assumes nothing.
+-- `md5::block::round_h` meets its contract: each turn of its loop is a line of four operations. Assumes nothing.
 use mathlib.Core.Path.{_≡_}
 use Prim.Native.Nat.{_*_, _-_, _≤_}
 use native.Mathlib.Omega.{arith}
@@ -21,35 +21,14 @@ shift-table-requires c κs = search needs
 loop-holds : tie.Need-loop-holds Inv-loop μ-loop
 loop-holds c = (omega arith, line-none (now (c .before .before .args .p)) 32 (c .before .before .args .st))
 
-mul-op-h : tie.Need-mul-op-h Inv-loop μ-loop
-mul-op-h c = search needs
-
 op-h-requires : tie.Need-op-h-requires Inv-loop μ-loop
 op-h-requires c κs = search needs
-
-mul-op-h-2 : tie.Need-mul-op-h-2 Inv-loop μ-loop
-mul-op-h-2 c = search needs
-
-add-op-h : tie.Need-add-op-h Inv-loop μ-loop
-add-op-h c = search needs
 
 op-h-requires-2 : tie.Need-op-h-requires-2 Inv-loop μ-loop
 op-h-requires-2 c κs = search needs
 
-mul-op-h-3 : tie.Need-mul-op-h-3 Inv-loop μ-loop
-mul-op-h-3 c = search needs
-
-add-op-h-2 : tie.Need-add-op-h-2 Inv-loop μ-loop
-add-op-h-2 c = search needs
-
 op-h-requires-3 : tie.Need-op-h-requires-3 Inv-loop μ-loop
 op-h-requires-3 c κs = search needs
-
-mul-op-h-4 : tie.Need-mul-op-h-4 Inv-loop μ-loop
-mul-op-h-4 c = search needs
-
-add-op-h-3 : tie.Need-add-op-h-3 Inv-loop μ-loop
-add-op-h-3 c = search needs
 
 op-h-requires-4 : tie.Need-op-h-requires-4 Inv-loop μ-loop
 op-h-requires-4 c κs = search needs
@@ -78,16 +57,9 @@ round-h-spec =
     μ-loop
     shift-table-requires
     loop-holds
-    mul-op-h
     op-h-requires
-    mul-op-h-2
-    add-op-h
     op-h-requires-2
-    mul-op-h-3
-    add-op-h-2
     op-h-requires-3
-    mul-op-h-4
-    add-op-h-3
     op-h-requires-4
     add-j
     loop-less

@@ -1,4 +1,4 @@
--- `md5::block::round_i` meets its contract. Assumes nothing.
+-- `md5::block::round_i` meets its contract: each turn of its loop is a line of four operations. Assumes nothing.
 use mathlib.Core.Path.{_≡_}
 use Prim.Native.Nat.{_*_, _-_, _≤_}
 use native.Mathlib.Omega.{arith}
@@ -21,35 +21,14 @@ shift-table-requires c κs = search needs
 loop-holds : tie.Need-loop-holds Inv-loop μ-loop
 loop-holds c = (omega arith, line-none (now (c .before .before .args .p)) 48 (c .before .before .args .st))
 
-mul-op-i : tie.Need-mul-op-i Inv-loop μ-loop
-mul-op-i c = search needs
-
 op-i-requires : tie.Need-op-i-requires Inv-loop μ-loop
 op-i-requires c κs = search needs
-
-mul-op-i-2 : tie.Need-mul-op-i-2 Inv-loop μ-loop
-mul-op-i-2 c = search needs
-
-add-op-i : tie.Need-add-op-i Inv-loop μ-loop
-add-op-i c = search needs
 
 op-i-requires-2 : tie.Need-op-i-requires-2 Inv-loop μ-loop
 op-i-requires-2 c κs = search needs
 
-mul-op-i-3 : tie.Need-mul-op-i-3 Inv-loop μ-loop
-mul-op-i-3 c = search needs
-
-add-op-i-2 : tie.Need-add-op-i-2 Inv-loop μ-loop
-add-op-i-2 c = search needs
-
 op-i-requires-3 : tie.Need-op-i-requires-3 Inv-loop μ-loop
 op-i-requires-3 c κs = search needs
-
-mul-op-i-4 : tie.Need-mul-op-i-4 Inv-loop μ-loop
-mul-op-i-4 c = search needs
-
-add-op-i-3 : tie.Need-add-op-i-3 Inv-loop μ-loop
-add-op-i-3 c = search needs
 
 op-i-requires-4 : tie.Need-op-i-requires-4 Inv-loop μ-loop
 op-i-requires-4 c κs = search needs
@@ -78,16 +57,9 @@ round-i-spec =
     μ-loop
     shift-table-requires
     loop-holds
-    mul-op-i
     op-i-requires
-    mul-op-i-2
-    add-op-i
     op-i-requires-2
-    mul-op-i-3
-    add-op-i-2
     op-i-requires-3
-    mul-op-i-4
-    add-op-i-3
     op-i-requires-4
     add-j
     loop-less
