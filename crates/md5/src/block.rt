@@ -269,7 +269,7 @@ fn op_i(q: [u32; 4], p: &[u8], j: usize, k: usize, t: &[u32; 64], s: &[u32; 64])
 }
 
 // Round 1: four lines of four operations. Each round is a function of its own, in which the operation is fixed: one function over the
-// number of the round is not inlined, and ran a fifth slower.
+// number of the round is not inlined, and took 17 per cent more time.
 fn round_f(st: [u32; 4], p: &[u8], t: &[u32; 64]) -> [u32; 4]
     requires { ⌜ (64 ≤ length (now p)) × (now t ≡ sines) ⌝ }
     ensures { λ r. ⌜ r ≡ stepsOf (now (p .entry)) 0 16 st ⌝ }
