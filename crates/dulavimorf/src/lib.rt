@@ -92,8 +92,8 @@ pub extern "C" fn dulavimorf_crc32_update(register: u32, data: &[u8]) -> u32
 pub extern "C" fn dulavimorf_crc32_finish(register: u32) -> u32
     ensures { λ r. ⌜ r ≡ finishOf (record { register = register }) ⌝ }
 {
-    let c = Crc32 { register };
-    c.finish()
+    let all = Crc32 { register };
+    all.finish()
 }
 
 #[no_mangle]
