@@ -1,4 +1,6 @@
 // CRC-32 (IEEE 802.3): the checksum of a message that comes whole or in parts, sixteen bytes a step, or four where it is short.
+#![tactic(auto)]
+
 ghost use Rattle.std.specs.Prelude.{◌≡◌, ◌+◌, ◌*◌, ◌≤◌, ◌<◌, length, take};
 ghost use Rattle.crc32.specs.Crc.{steps, crc_of, crc32, fresh, feed, finish_of};
 ghost use Rattle.crc32.specs.Table.{Sliced, word_at};

@@ -1,5 +1,7 @@
 // Runs outside vectors through the compiled `crc32` and prints what it gets. Nothing expected stands here: the gate compares the output
 // with `stdout`, which zlib made.
+#![tactic(auto)]
+
 ghost use Rattle.std.specs.Prelude.{◌≡◌, ◌≤◌, length};
 
 use libc::STDOUT_FILENO;

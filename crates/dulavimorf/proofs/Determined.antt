@@ -3,7 +3,7 @@ use mathlib.Core.Path.{sym, ap, ◌∙◌}
 use mathlib.Core.List.{List}
 use Prim.Native.Nat.{ℕ}
 use Rattle.determined.specs.Determined.{Sees, Determined}
-use Rattle.md5.specs.declared.Md5.{Md5}
+use Rattle.md5_digest.specs.declared.Md5.{Md5}
 use Rattle.crc32.specs.declared.Crc32.{Crc32}
 use Rattle.dulavimorf.proofs.dulavimorf_md5_new as md5-new-call
 use Rattle.dulavimorf.proofs.dulavimorf_md5_update as md5-update-call

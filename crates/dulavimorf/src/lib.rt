@@ -1,14 +1,16 @@
 // The calls for programs in C or Rust. `rt staticlib dulavimorf` puts them into one library. A state is the fields of its struct,
 // each behind a pointer of its own; bytes are a pointer and a length.
+#![tactic(auto)]
+
 ghost use Rattle.std.specs.Prelude.{◌≡◌};
-ghost use Rattle.md5.specs.Rfc1321.{md5};
-ghost use Rattle.md5.specs.Pieces.{fresh as fresh_digest, feed as feed_digest, finish_of as finish_digest};
-ghost use Rattle.md5.specs.declared.Md5.{Md5 as Digest};
+ghost use Rattle.md5_digest.specs.Rfc1321.{md5};
+ghost use Rattle.md5_digest.specs.Pieces.{fresh as fresh_digest, feed as feed_digest, finish_of as finish_digest};
+ghost use Rattle.md5_digest.specs.declared.Md5.{Md5 as Digest};
 ghost use Rattle.crc32.specs.Crc.{crc32, fresh, feed, finish_of};
 ghost use Rattle.crc32.specs.declared.Crc32.{Crc32 as Sum};
 
 use crc32::Crc32;
-use md5::Md5;
+use md5_digest::Md5;
 
 #[unsafe(no_mangle)]
 pub extern "C" fn dulavimorf_md5_new(state: &mut [u32; 4], tail: &mut [u8; 64], fed: &mut u64)
@@ -70,7 +72,7 @@ pub extern "C" fn dulavimorf_md5_finish(
 pub extern "C" fn dulavimorf_md5(data: &[u8], out: &mut [u8; 16])
     ensures { out.new ≡ md5 «data».now }
 {
-    let d = md5::digest(data);
+    let d = md5_digest::digest(data);
     *out = d;
 }
 

@@ -1,5 +1,7 @@
 // Runs outside vectors through the compiled `md5` and prints what it gets. Nothing expected stands here: the gate compares the output
 // with `stdout`, which md5sum made.
+#![tactic(auto)]
+
 ghost use Rattle.std.specs.Prelude.{◌≡◌, ◌≤◌, length};
 
 use libc::STDOUT_FILENO;
@@ -25,7 +27,7 @@ fn print_digest(digest: &[u8]) {
 
 // A line of RFC 1321, A.5.
 fn quoted(text: &[u8]) {
-    let digest = md5::digest(text);
+    let digest = md5_digest::digest(text);
     print(b"MD5 (\"");
     print(text);
     print(b"\") = ");
@@ -61,7 +63,7 @@ fn message(n: usize) -> [u8; LONGEST]
 fn in_two(s: &[u8], k: usize) -> [u8; 16]
     requires { k ≤ length s.now }
 {
-    md5::Md5::new().update(&s[0..k]).update(&s[k..]).finish()
+    md5_digest::Md5::new().update(&s[0..k]).update(&s[k..]).finish()
 }
 
 // In how many of the places where s can be cut in two the pieces give the digest.
@@ -79,7 +81,7 @@ fn agreeing(s: &[u8], digest: &[u8]) -> u64 {
 }
 
 fn line(s: &[u8]) {
-    let digest = md5::digest(s);
+    let digest = md5_digest::digest(s);
     io::print_decimal(STDOUT_FILENO, s.len() as u64);
     print(b" ");
     print_digest(&digest);
@@ -97,8 +99,8 @@ fn lengths() {
     }
 }
 
-fn repeated(piece: &[u8], times: u64) -> md5::Md5 {
-    let mut under_way = md5::Md5::new();
+fn repeated(piece: &[u8], times: u64) -> md5_digest::Md5 {
+    let mut under_way = md5_digest::Md5::new();
     let mut i: u64 = 0;
     while i < times {
         under_way = under_way.update(piece);

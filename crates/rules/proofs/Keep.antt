@@ -18,7 +18,7 @@ use Rattle.rules.proofs.Numbers.{All, In, Out, in_head, in_tail, in-cons, in-nil
 use Rattle.rules.proofs.Numbers.{repeats-nil, repeats-cons, repeats-head, repeats-tail, repeats-last, le-highest, highest-in, same_or}
 use Rattle.rules.proofs.Numbers.{del, del-hit, del-miss, del-length, del-in, del-keep, del-repeats, del-gone, free-le, free-out}
 use Rattle.rules.proofs.Store.{slot-here, slot-other, slot-length}
-use Rattle.rules.proofs.Held.{Held, inv-take_in, take_in_all}
+use Rattle.rules.proofs.Held.{Held, take_in, take_in_all}
 
 -- lists
 pub all_append : {A : Type 0} (P : A → Type 0) (xs ys : List A) → All P xs → All P ys → All P (xs ++ ys)
@@ -355,8 +355,8 @@ module _ (limit size capacity : ℕ) (fits : limit ≤ capacity) (fs : List Foun
 
 -- one good packet
 pub inv-take_in : (a : Ask) (capacity : ℕ) (fs : List Found) (f : Found) (h : Held) → a.limit ≤ capacity → length f.bytes ≡ a.size
-    → Inv a.limit a.size capacity fs h → Inv a.limit a.size capacity (fs ++ (f ∷ [])) (inv-take_in a f h)
-unfolding inv-take_in arrive
+    → Inv a.limit a.size capacity fs h → Inv a.limit a.size capacity (fs ++ (f ∷ [])) (take_in a f h)
+unfolding take_in arrive
 inv-take_in a capacity fs f h fits sized inv =
     by-test (unwanted a.limit h.rows f.exponent)
     (λ w. rw w (passed_over a.limit a.size capacity fits fs h inv f w))
@@ -370,8 +370,8 @@ pub inv-take_in_all : (a : Ask) (capacity : ℕ) (fs gs : List Found) (h : Held)
 unfolding take_in_all
 inv-take_in_all a capacity fs [] h fits sized inv = rw append-nil inv
 inv-take_in_all a capacity fs (g ∷ gs) h fits sized inv =
-    subst (λ (l : List Found). Inv a.limit a.size capacity l (take_in_all a gs (inv-take_in a g h))) (append_assoc fs (g ∷ []) gs)
-    (inv-take_in_all a capacity (fs ++ (g ∷ [])) gs (inv-take_in a g h) fits sized.1 (inv-take_in a capacity fs g h fits sized.0 inv))
+    subst (λ (l : List Found). Inv a.limit a.size capacity l (take_in_all a gs (take_in a g h))) (append_assoc fs (g ∷ []) gs)
+    (inv-take_in_all a capacity (fs ++ (g ∷ [])) gs (take_in a g h) fits sized.1 (inv-take_in a capacity fs g h fits sized.0 inv))
 
 -- before the first
 pub begin : (limit size capacity : ℕ) (store : List ℕ) → capacity * size ≤ length store → Inv limit size capacity [] (record { rows = []; store = store })

@@ -8,7 +8,7 @@ use lib.Dec.{eqb, ltb, leb}
 use lib.ListN.{length, take, drop, length-append, take-append-drop}
 use lib.Seq.{take-append-le}
 use borrow.Author.Tests.{le-ltb, ltb-false, le-leb, eq-eqb}
-use Rattle.md5.specs.Rfc1321.{md5}
+use Rattle.md5_digest.specs.Rfc1321.{md5}
 use Rattle.format.specs.Bytes.{part, same, little}
 use Rattle.format.specs.Packet.{magic, magic_of, length_of, usable_length}
 use Rattle.rules.specs.Rows.{unwanted}

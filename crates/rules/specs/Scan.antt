@@ -2,7 +2,7 @@
 -- stops, or passes over some of them.
 use Rattle.std.specs.Prelude.{Bool, true, cond, ◌&&◌, List, [], ◌∷◌, ℕ, zero, suc, ◌+◌, ◌-◌, ◌*◌, eqb, ltb, length}
 use Rattle.std.proofs.Math.Seq.{paste}
-use Rattle.md5.specs.Rfc1321.{md5}
+use Rattle.md5_digest.specs.Rfc1321.{md5}
 use Rattle.format.specs.Bytes.{part, same, little}
 use Rattle.format.specs.Packet.{magic, recovery_type, magic_of, length_of, digest_of, hashed_of, set_of, type_of, usable_length}
 use Rattle.types.specs.declared.RowRecord.{RowRecord}

@@ -1,0 +1,17 @@
+-- Each public call's contract determines its result. No call lends a byte to be changed. Assumes nothing.
+use Rattle.std.proofs.Common.{sym, ◌∙◌}
+use Rattle.determined.specs.Determined.{Determined}
+use Rattle.md5_digest.proofs.Md5 as Md5
+use Rattle.md5_digest.proofs.digest as whole
+
+pub new : Determined 0 Md5.new.Kinds.ps Md5.new.Kinds.r Md5.new.Reads.Learnt
+new κs a x y e f p q = p ∙ sym q
+
+pub update : Determined 1 Md5.update.Kinds.ps Md5.update.Kinds.r Md5.update.Reads.Learnt
+update κs a x y e f p q = p ∙ sym q
+
+pub finish : Determined 0 Md5.finish.Kinds.ps Md5.finish.Kinds.r Md5.finish.Reads.Learnt
+finish κs a x y e f p q = p ∙ sym q
+
+pub digest : Determined 1 whole.Kinds.ps whole.Kinds.r whole.Reads.Learnt
+digest κs a x y e f p q = p ∙ sym q
