@@ -1,0 +1,7 @@
+use Rattle.std.proofs.Common.{refl}
+use Rattle.md5_digest.specs.Pieces.{fresh}
+use Rattle.md5_digest.proofs.Md5.new.Goals as goal
+
+pub returns : goal.returns
+unfolding fresh
+returns c = refl
