@@ -4,24 +4,13 @@
 
 ghost use Rattle.std.specs.Prelude.{◌≡◌, ◌≤◌, length};
 
-use libc::STDOUT_FILENO;
+use std::io;
 
 // The greatest length of a message of `lengths`: `crc32` goes another way from 256 bytes on.
 const LONGEST: usize = 300;
 
-fn print(text: &[u8]) {
-    io::write_all(STDOUT_FILENO, text);
-}
-
-fn print_sum(sum: u32) {
-    io::print_hex(STDOUT_FILENO, sum as u64, 8);
-}
-
-fn named(name: &[u8], sum: u32) {
-    print(name);
-    print(b" ");
-    print_sum(sum);
-    print(b"\n");
+fn named(rt: &impl Print, name: &str, sum: u32) -> io::Result<()> {
+    println!(rt; "{name} {sum:08x}")
 }
 
 // Bytes that depend on n too, so that the messages of two lengths do not start alike.
@@ -30,10 +19,8 @@ fn message(n: usize) -> [u8; LONGEST]
     ensures { length result ≡ 300 }
 {
     let mut m = [0u8; LONGEST];
-    let mut i: usize = 0;
-    while i < LONGEST {
+    for i in 0..LONGEST {
         m[i] = ((i * 7 + n) % 256) as u8;
-        i += 1;
     }
     m
 }
@@ -51,58 +38,50 @@ fn in_two(s: &[u8], k: usize) -> u32
 // In how many of the places where s can be cut in two the pieces give the sum.
 fn agreeing(s: &[u8], sum: u32) -> u64 {
     let mut count: u64 = 0;
-    let mut k: usize = 0;
-    while k <= s.len() {
+    for k in 0..s.len() + 1 {
         if in_two(s, k) == sum {
             count += 1;
         }
-        k += 1;
     }
     count
 }
 
-fn line(s: &[u8]) {
+fn line(rt: &impl Print, s: &[u8]) -> io::Result<()> {
+    let len = s.len();
     let sum = crc32::checksum(s);
-    io::print_decimal(STDOUT_FILENO, s.len() as u64);
-    print(b" ");
-    print_sum(sum);
-    print(b" ");
-    io::print_decimal(STDOUT_FILENO, agreeing(s, sum));
-    print(b"\n");
+    let cuts = agreeing(s, sum);
+    println!(rt; "{len} {sum:08x} {cuts}")
 }
 
-fn lengths(first: usize, last: usize)
+fn lengths(rt: &impl Print, first: usize, last: usize) -> io::Result<()>
     requires { (first ≤ last) × (last ≤ 300) }
 {
-    let mut n = first;
-    while n <= last {
+    for n in first..last + 1 {
         let m = message(n);
-        line(&m[0..n]);
-        n += 1;
+        line(rt, &m[0..n])?;
     }
+    Ok(())
 }
 
 fn repeated(piece: &[u8], times: u64) -> crc32::Crc32 {
     let mut under_way = crc32::Crc32::new();
-    let mut i: u64 = 0;
-    while i < times {
+    for _ in 0..times {
         under_way = under_way.update(piece);
-        i += 1;
     }
     under_way
 }
 
 // 1000 is no multiple of 16: each piece ends with bytes that are taken one by one.
-fn million() {
+fn million(rt: &impl Print) -> io::Result<()> {
     let piece = [b'a'; 1000];
-    named(b"million a", repeated(&piece, 1000).finish());
+    named(rt, "million a", repeated(&piece, 1000).finish())
 }
 
 // The lengths lie around the two numbers at which `crc32` changes its way: 16 bytes, its long step, and 256, from which it takes that.
-fn main() {
-    named(b"123456789", crc32::checksum(b"123456789"));
-    named(b"empty", crc32::checksum(b""));
-    lengths(0, 40);
-    lengths(240, 300);
-    million();
+fn main(rt: HostRuntime) -> io::Result<()> {
+    named(&rt, "123456789", crc32::checksum(b"123456789"))?;
+    named(&rt, "empty", crc32::checksum(b""))?;
+    lengths(&rt, 0, 40)?;
+    lengths(&rt, 240, 300)?;
+    million(&rt)
 }

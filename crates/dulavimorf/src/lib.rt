@@ -14,7 +14,7 @@ use md5_digest::Md5;
 
 #[unsafe(no_mangle)]
 pub extern "C" fn dulavimorf_md5_new(state: &mut [u32; 4], tail: &mut [u8; 64], fed: &mut u64)
-    ensures { ◌≡◌ {A = Digest} (record { state = state.exit.now; tail = tail.new; fed = fed.new }) fresh_digest }
+    ensures { ◌≡◌ {A = Digest} (record { state = state.new; tail = tail.new; fed = fed.new }) fresh_digest }
 {
     let m = Md5::new();
     let s = m.state;
@@ -31,7 +31,7 @@ pub extern "C" fn dulavimorf_md5_update(
     fed: &mut u64,
     data: &[u8],
 )
-    ensures { ◌≡◌ {A = Digest} (record { state = state.exit.now; tail = tail.new; fed = fed.new }) (feed_digest (record { state = state.entry.now; tail = tail.old; fed = fed.old }) «data».now) }
+    ensures { ◌≡◌ {A = Digest} (record { state = state.new; tail = tail.new; fed = fed.new }) (feed_digest (record { state = state.old; tail = tail.old; fed = fed.old }) «data».now) }
 {
     let s = *state;
     let t = *tail;
@@ -55,7 +55,7 @@ pub extern "C" fn dulavimorf_md5_finish(
     fed: u64,
     out: &mut [u8; 16],
 )
-    ensures { out.new ≡ finish_digest (record { state = state.entry.now; tail = tail.now; fed = fed }) }
+    ensures { out.new ≡ finish_digest (record { state = state.now; tail = tail.now; fed = fed }) }
 {
     let s = *state;
     let t = *tail;

@@ -1,48 +1,43 @@
-// Runs outside vectors through the compiled `md5` and prints what it gets. Nothing expected stands here: the gate compares the output
-// with `stdout`, which md5sum made.
+// Runs outside vectors through the compiled `md5_digest` and prints what it gets. Nothing expected stands here: the gate compares the
+// output with `stdout`, which md5sum made.
 #![tactic(auto)]
 
 ghost use Rattle.std.specs.Prelude.{◌≡◌, ◌≤◌, length};
 
-use libc::STDOUT_FILENO;
+use std::io;
 
 // The greatest length of a message of `lengths`: past two blocks, so that the padding's edges, at 56 and 120 bytes, lie within.
 const LONGEST: usize = 130;
 
-fn print(text: &[u8]) {
-    io::write_all(STDOUT_FILENO, text);
-}
-
-fn wide(x: u8) -> u64 {
-    x as u64
-}
-
-fn print_digest(digest: &[u8]) {
-    let mut i: usize = 0;
-    while i < digest.len() {
-        io::print_hex(STDOUT_FILENO, wide(digest[i]), 2);
-        i += 1;
+fn print_digest(rt: &impl Print, digest: &[u8]) -> io::Result<()> {
+    for byte in digest {
+        print!(rt; "{byte:02x}")?;
     }
+    Ok(())
 }
 
 // A line of RFC 1321, A.5.
-fn quoted(text: &[u8]) {
-    let digest = md5_digest::digest(text);
-    print(b"MD5 (\"");
-    print(text);
-    print(b"\") = ");
-    print_digest(&digest);
-    print(b"\n");
+fn quoted(rt: &impl Print, text: &str) -> io::Result<()> {
+    let digest = md5_digest::digest(text.as_bytes());
+    print!(rt; "MD5 (\"{text}\") = ")?;
+    print_digest(rt, &digest)?;
+    println!(rt; "")
 }
 
-fn rfc1321() {
-    quoted(b"");
-    quoted(b"a");
-    quoted(b"abc");
-    quoted(b"message digest");
-    quoted(b"abcdefghijklmnopqrstuvwxyz");
-    quoted(b"ABCDEFGHIJKLMNOPQRSTUVWXYZabcdefghijklmnopqrstuvwxyz0123456789");
-    quoted(b"12345678901234567890123456789012345678901234567890123456789012345678901234567890");
+fn rfc1321(rt: &impl Print) -> io::Result<()> {
+    quoted(rt, "")?;
+    quoted(rt, "a")?;
+    quoted(rt, "abc")?;
+    quoted(rt, "message digest")?;
+    quoted(rt, "abcdefghijklmnopqrstuvwxyz")?;
+    quoted(
+        rt,
+        "ABCDEFGHIJKLMNOPQRSTUVWXYZabcdefghijklmnopqrstuvwxyz0123456789",
+    )?;
+    quoted(
+        rt,
+        "12345678901234567890123456789012345678901234567890123456789012345678901234567890",
+    )
 }
 
 // Bytes that depend on n too, so that the messages of two lengths do not start alike.
@@ -51,10 +46,8 @@ fn message(n: usize) -> [u8; LONGEST]
     ensures { length result ≡ 130 }
 {
     let mut m = [0u8; LONGEST];
-    let mut i: usize = 0;
-    while i < LONGEST {
+    for i in 0..LONGEST {
         m[i] = ((i * 7 + n) % 256) as u8;
-        i += 1;
     }
     m
 }
@@ -63,73 +56,73 @@ fn message(n: usize) -> [u8; LONGEST]
 fn in_two(s: &[u8], k: usize) -> [u8; 16]
     requires { k ≤ length s.now }
 {
-    md5_digest::Md5::new().update(&s[0..k]).update(&s[k..]).finish()
+    md5_digest::Md5::new()
+        .update(&s[0..k])
+        .update(&s[k..])
+        .finish()
 }
 
 // In how many of the places where s can be cut in two the pieces give the digest.
-fn agreeing(s: &[u8], digest: &[u8]) -> u64 {
+fn agreeing(s: &[u8], digest: [u8; 16]) -> u64 {
     let mut count: u64 = 0;
-    let mut k: usize = 0;
-    while k <= s.len() {
-        let pieces = in_two(s, k);
-        if check::same(&pieces, digest) {
+    for k in 0..s.len() + 1 {
+        if in_two(s, k) == digest {
             count += 1;
         }
-        k += 1;
     }
     count
 }
 
-fn line(s: &[u8]) {
+fn line(rt: &impl Print, s: &[u8]) -> io::Result<()> {
+    let len = s.len();
     let digest = md5_digest::digest(s);
-    io::print_decimal(STDOUT_FILENO, s.len() as u64);
-    print(b" ");
-    print_digest(&digest);
-    print(b" ");
-    io::print_decimal(STDOUT_FILENO, agreeing(s, &digest));
-    print(b"\n");
+    print!(rt; "{len} ")?;
+    print_digest(rt, &digest)?;
+    let cuts = agreeing(s, digest);
+    println!(rt; " {cuts}")
 }
 
-fn lengths() {
-    let mut n: usize = 0;
-    while n <= LONGEST {
+fn lengths(rt: &impl Print) -> io::Result<()> {
+    for n in 0..LONGEST + 1 {
         let m = message(n);
-        line(&m[0..n]);
-        n += 1;
+        line(rt, &m[0..n])?;
     }
+    Ok(())
 }
 
 fn repeated(piece: &[u8], times: u64) -> md5_digest::Md5 {
     let mut under_way = md5_digest::Md5::new();
-    let mut i: u64 = 0;
-    while i < times {
+    for _ in 0..times {
         under_way = under_way.update(piece);
-        i += 1;
     }
     under_way
 }
 
+fn named(rt: &impl Print, name: &str, digest: [u8; 16]) -> io::Result<()> {
+    print!(rt; "{name} ")?;
+    print_digest(rt, &digest)?;
+    println!(rt; "")
+}
+
 // 1000 is no multiple of 64: the pieces start at different places of a block.
-fn million() {
+fn million(rt: &impl Print) -> io::Result<()> {
     let piece = [b'a'; 1000];
-    let digest = repeated(&piece, 1000).finish();
-    print(b"million a ");
-    print_digest(&digest);
-    print(b"\n");
+    named(rt, "million a", repeated(&piece, 1000).finish())
 }
 
 // 2^29 zero bytes and one more: the number of bits needs the high word of the length field.
-fn over_four_gigabits() {
-    let piece = io::large_buffer();
-    let digest = repeated(&piece, 8192).update(b"\x00").finish();
-    print(b"2^32 bits ");
-    print_digest(&digest);
-    print(b"\n");
+fn over_four_gigabits(rt: &impl Print) -> io::Result<()> {
+    let piece = [0u8; 65536];
+    named(
+        rt,
+        "2^32 bits",
+        repeated(&piece, 8192).update(b"\x00").finish(),
+    )
 }
 
-fn main() {
-    rfc1321();
-    lengths();
-    million();
-    over_four_gigabits();
+fn main(rt: HostRuntime) -> io::Result<()> {
+    rfc1321(&rt)?;
+    lengths(&rt)?;
+    million(&rt)?;
+    over_four_gigabits(&rt)
 }
