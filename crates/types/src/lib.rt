@@ -1,4 +1,6 @@
 // What several crates share: ids and checksums, the record of a kept row, what a volume's scan reports, a budget, and the refusals.
+#![tactic(auto)]
+
 ghost use Rattle.std.specs.Prelude.{◌≡◌};
 ghost use Rattle.types.specs.Answers.{number, read_to_end};
 
