@@ -8,7 +8,7 @@ ghost use Rattle.crc32.specs.Table.{Sliced, word_at};
 mod table;
 
 // A checksum under way: the register after the bytes fed. Every value has an answer.
-#[derive(Drop)]
+#[derive(Clone, Copy)]
 pub struct Crc32 {
     pub register: u32,
 }

@@ -1,5 +1,5 @@
 -- Document 01, "Packet layout": the fixed byte strings, the fields of the packet that starts a run of bytes, and which lengths are usable.
-use Rattle.std.specs.Prelude.{Bool, ◌&&◌, List, [], ◌∷◌, ◌++◌, ℕ, ◌-◌, ◌%◌, eqb, leb, take}
+use Rattle.std.specs.Prelude.{Bool, ◌&&◌, List, [], ◌∷◌, ℕ, ◌-◌, ◌%◌, eqb, leb, take}
 use Rattle.format.specs.Bytes.{part, little}
 
 -- ---- the fixed byte strings

@@ -1,7 +1,7 @@
 -- The laws of the block function: the words and shift amounts of an operation, G as a sum, a line of a round, a block.
 -- Assumes nothing.
-use Rattle.std.proofs.Common.{◌≡◌, ℕ, zero, suc, ◌+◌, ◌-◌, ◌*◌, ◌/◌, ◌%◌, ◌^◌, ◌<◌, ◌≤◌, min, Bool, true, false, T, eqb, ltb, List, [], ◌∷◌, get_or, sym, refl, ap, ◌∙◌, subst, ap₂, ⊎_elim, le_of_suc-le-suc, not-suc-le-zero, eq-zero-or-pos, eq-or-lt_of_le, pow-suc, add-one, arith, eqb→eq, ltb→lt, le-ltb, lt-ltb}
-use lib.Bits.{bit_and, bit_or, and_step, and_shr, and_zero_r, and_zero_l, or_disjoint}
+use Rattle.std.proofs.Common.{◌≡◌, ℕ, zero, suc, ◌+◌, ◌-◌, ◌*◌, ◌/◌, ◌%◌, ◌^◌, ◌<◌, min, Bool, true, false, T, eqb, ltb, List, [], ◌∷◌, get_or, sym, refl, ap, ◌∙◌, subst, ap₂, ⊎_elim, le_of_suc-le-suc, not-suc-le-zero, eq-zero-or-pos, eq-or-lt_of_le, pow-suc, add-one, arith, eqb→eq, ltb→lt, le-ltb, lt-ltb}
+use lib.Bits.{bit_and, and_step, and_shr, and_zero_r, and_zero_l, or_disjoint}
 use Rattle.md5_digest.specs.Rfc1321.{not32, rotl, mix_f, mix_g, mix_h, mix_i, mix_of, words, shifts, sines, word_at, step_with, step_of, steps_of, block_of}
 
 -- ---- a test that antt computes, at each number below n

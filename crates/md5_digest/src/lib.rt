@@ -11,7 +11,7 @@ mod block;
 
 // A digest under way: the state after the whole blocks, the bytes after them at the front of tail, and how many bytes were fed,
 // modulo 2^64. Every value has an answer.
-#[derive(Drop)]
+#[derive(Clone, Copy)]
 pub struct Md5 {
     pub state: [u32; 4],
     pub tail: [u8; 64],
@@ -151,7 +151,8 @@ impl Md5 {
         let sines = block::sine_table();
         let bit = [0x80u8];
         let last = lay(tail, held, &bit);
-        if held < 56 {
+        let fits = held < 56;
+        if fits {
             let block = with_length(last, fed);
             return output_of(absorb(state, &block, &sines));
         }

@@ -1,16 +1,16 @@
 -- What any bytes bring, whatever the reader's rows and limit: the good packets at the places where the scan stands. `held_any` says that the scan
 -- of any bytes takes in just that, one after the other.
-use mathlib.Core.Bool.{Bool, true, false, cond, ◌&&◌}
+use mathlib.Core.Bool.{Bool, true, false, cond}
 use mathlib.Core.List.{List, [], ◌∷◌, ◌++◌}
 use mathlib.Core.Path.{◌≡◌, refl, sym, ap, ap₂, ◌∙◌}
 use Prim.Native.Nat.{ℕ, zero, suc, ◌+◌, ◌-◌, ◌%◌, ◌≤◌, ◌<◌}
 use native.Mathlib.Omega.{arith}
 use native.Mathlib.Nat.{le_of_suc-le-suc}
-use lib.Dec.{eqb, ltb, leb}
+use lib.Dec.{ltb, leb}
 use lib.ListN.{length, take, drop, take-append-drop, length-append, length-take, length-drop}
 use lib.Seq.{length-take-le, take-take, take-append_seam}
 use borrow.Author.Tests.{le-ltb, lt-ltb, ltb-false, ltb-true, leb-true, eqb-true}
-use Rattle.format.specs.Bytes.{part, same, little}
+use Rattle.format.specs.Bytes.{same, little}
 use Rattle.format.specs.Packet.{magic, magic_of, length_of, usable_length}
 use Rattle.types.specs.declared.VolumeEnd.{VolumeEnd}
 use Rattle.types.specs.declared.VolumeEnd.TheVariants.{Truncated}

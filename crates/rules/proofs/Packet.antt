@@ -2,17 +2,17 @@
 use mathlib.Core.Bool.{Bool, true, false, cond}
 use mathlib.Core.List.{List, ◌++◌, append_assoc}
 use mathlib.Core.Path.{◌≡◌, refl, sym, ap, ap₂, ◌∙◌}
-use Prim.Native.Nat.{ℕ, ◌+◌, ◌-◌, ◌%◌, ◌≤◌, ◌<◌}
+use Prim.Native.Nat.{ℕ, ◌+◌, ◌-◌, ◌%◌, ◌≤◌}
 use native.Mathlib.Omega.{arith}
 use lib.Dec.{eqb, ltb, leb}
-use lib.ListN.{length, take, drop, length-append, take-append-drop}
+use lib.ListN.{length, drop, length-append, take-append-drop}
 use lib.Seq.{take-append-le}
 use borrow.Author.Tests.{le-ltb, ltb-false, le-leb, eq-eqb}
 use Rattle.md5_digest.specs.Rfc1321.{md5}
 use Rattle.format.specs.Bytes.{part, same, little}
 use Rattle.format.specs.Packet.{magic, magic_of, length_of, usable_length}
 use Rattle.rules.specs.Rows.{unwanted}
-use Rattle.rules.specs.Scan.{Ask, State, Step, go, exponent_of, seen_one, corrupt_one, agree}
+use Rattle.rules.specs.Scan.{Ask, State, go, exponent_of, seen_one, corrupt_one, agree}
 use Rattle.rules.specs.Scan.{header, past, ours, digest_right, hashed, long_packet, packet, step}
 use Rattle.rules.specs.Good.{Whole}
 use Rattle.rules.proofs.Tests.{by-test, and_both}

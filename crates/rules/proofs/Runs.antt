@@ -1,18 +1,17 @@
 -- Parts of runs of bytes, and runs that are like the magic.
-use mathlib.Core.Bool.{Bool, true, false, ◌&&◌, false≢true}
+use mathlib.Core.Bool.{true, false≢true}
 use mathlib.Core.List.{List, [], ◌∷◌, ◌++◌}
-use mathlib.Core.Path.{◌≡◌, refl, sym, ap, ◌∙◌}
-use Prim.Native.Nat.{ℕ, zero, suc, ◌+◌, ◌≤◌, ◌<◌}
+use mathlib.Core.Path.{◌≡◌, refl, ap, ◌∙◌}
+use Prim.Native.Nat.{ℕ, zero, suc, ◌+◌, ◌≤◌}
 use native.Mathlib.Omega.{arith}
 use native.Mathlib.Nat.{le_of_suc-le-suc}
 use lib.Dec.{eqb}
-use lib.ListN.{length, take, drop, length-drop, take-append-drop}
-use lib.Seq.{take-append-le, drop-append-le, take_at}
+use lib.ListN.{length, take, drop, length-drop}
+use lib.Seq.{take-append-le, drop-append-le}
 use borrow.Author.Tests.{eq-eqb, eqb-true}
 use Rattle.format.specs.Bytes.{part, same}
-use Rattle.format.specs.Packet.{magic}
 use Rattle.rules.specs.Scan.{agree}
-use Rattle.rules.proofs.Tests.{and_left, and_right, and_both, by-test, clash}
+use Rattle.rules.proofs.Tests.{and_left, and_right, and_both}
 
 -- bytes of a list's front, where something follows
 pub part-append : (i n : ℕ) (p q : List ℕ) → i + n ≤ length p → part i n (p ++ q) ≡ part i n p

@@ -1,19 +1,19 @@
 -- The scan as a loop sees it: where a step stops, the scan ends; where it goes on, the scan goes on behind the bytes passed over, at least one and
 -- no more than there are. With these a loop's invariant is that the scan from its position is the scan of the whole.
-use mathlib.Core.Bool.{Bool, true, false, cond, ◌&&◌}
+use mathlib.Core.Bool.{Bool, true, false, cond}
 use mathlib.Core.List.{List, [], ◌∷◌}
 use mathlib.Core.Path.{◌≡◌, refl, ap, ◌∙◌, subst}
 use Prim.Native.Nat.{ℕ, zero, suc, ◌+◌, ◌-◌, ◌≤◌, ◌<◌}
 use native.Mathlib.Omega.{arith}
 use lib.Dec.{ltb, leb}
-use lib.ListN.{length, take, drop, length-take, length-drop}
+use lib.ListN.{length, drop, length-take, length-drop}
 use borrow.Author.Tests.{le-ltb, lt-ltb, ltb-false, leb-true}
 use Rattle.format.specs.Bytes.{part, same}
 use Rattle.format.specs.Packet.{magic, magic_of, length_of, usable_length}
 use Rattle.types.specs.declared.VolumeEnd.{VolumeEnd}
 use Rattle.types.specs.declared.VolumeEnd.TheVariants.{Complete}
 use Rattle.rules.specs.Rows.{unwanted}
-use Rattle.rules.specs.Scan.{Ask, State, Step, stop, go, Ended, exponent_of, seen_one, corrupt_one, hashed, agree, tail_end, header, stray, resync}
+use Rattle.rules.specs.Scan.{Ask, State, Step, stop, go, exponent_of, seen_one, corrupt_one, hashed, agree, tail_end, header, stray, resync}
 use Rattle.rules.specs.Scan.{past, ours, long_packet, packet, step, follow, scan}
 use Rattle.rules.proofs.Tests.{by-test, and_left, and_right}
 

@@ -1,7 +1,7 @@
 -- Where the scan goes on in junk: to the first place of the window of 64 bytes from which on it equals the start of the magic, else past the window.
 use mathlib.Core.Bool.{Bool, true, false, cond}
 use mathlib.Core.List.{List, [], ◌∷◌, ◌++◌}
-use mathlib.Core.Path.{◌≡◌, refl, sym, ap, ◌∙◌}
+use mathlib.Core.Path.{◌≡◌, sym, ap, ◌∙◌}
 use Prim.Native.Nat.{ℕ, zero, suc, ◌+◌, ◌-◌, ◌≤◌, ◌<◌}
 use native.Mathlib.Omega.{arith}
 use native.Mathlib.Nat.{zero-sub, sub-zero}
@@ -10,7 +10,7 @@ use lib.Seq.{drop-drop, drop-nil, take-nil}
 use Rattle.format.specs.Bytes.{part}
 use Rattle.format.specs.Packet.{magic}
 use Rattle.rules.specs.Scan.{agree, stray, resync}
-use Rattle.rules.proofs.Tests.{by-test, clash}
+use Rattle.rules.proofs.Tests.{by-test}
 use Rattle.rules.proofs.Runs.{agree-take}
 
 -- ---- The place that is found is the first

@@ -8,7 +8,7 @@ use Rattle.types.specs.declared.VolumeEnd.{VolumeEnd}
 use Rattle.types.specs.declared.VolumeEnd.TheVariants.{Complete, Truncated, CapReached}
 use Rattle.types.specs.declared.VolumeScan.{VolumeScan}
 use Rattle.types.specs.declared.VolumeAnswer.TheVariants.{Scanned}
-use Rattle.rules.specs.Reader.{Reader, default_cap}
+use Rattle.rules.specs.Reader.{default_cap}
 use Rattle.rules.specs.Volume.{VolumeRead, read_volume}
 use Rattle.rules.specs.Budget.{row_limit}
 

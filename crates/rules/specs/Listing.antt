@@ -1,5 +1,5 @@
 -- Rows handed out: the data of one, and the records of all. Document 01, "Volume scan".
-use Rattle.std.specs.Prelude.{Bool, cond, List, [], ◌∷◌, ◌++◌, ℕ, zero, suc, ltb, length, drop}
+use Rattle.std.specs.Prelude.{cond, List, [], ◌∷◌, ◌++◌, ℕ, zero, suc, ltb, length, drop}
 use Rattle.types.specs.declared.RowRecord.{RowRecord}
 use Rattle.types.specs.declared.Refusal.TheVariants.{BadState, ListShort}
 use Rattle.types.specs.declared.Answer.{Answer}

@@ -1,5 +1,5 @@
 -- The reader: its state, what contradicts itself in one, the refusals of its calls, and the calls that only make or set it. Document 01, "Refusal numbers".
-use Rattle.std.specs.Prelude.{Bool, true, false, cond, ◌||◌, not, List, [], ◌∷◌, ℕ, ◌*◌, ◌^◌, ◌%◌, eqb, ltb, leb, length, replicate}
+use Rattle.std.specs.Prelude.{Bool, false, cond, ◌||◌, not, List, [], ◌∷◌, ℕ, ◌*◌, ◌^◌, ◌%◌, eqb, ltb, leb, length, replicate}
 use Rattle.types.specs.declared.RowRecord.{RowRecord}
 use Rattle.types.specs.declared.Refusal.{Refusal}
 use Rattle.types.specs.declared.Refusal.TheVariants.{BadSliceSize, BadCapacity, BadState}

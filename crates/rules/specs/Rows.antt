@@ -1,5 +1,5 @@
 -- The rows that a reader keeps, in the order of arrival, and the store that holds their data. Document 01, "Volume scan".
-use Rattle.std.specs.Prelude.{Bool, true, false, cond, ◌&&◌, ◌||◌, List, [], ◌∷◌, ◌++◌, map, ℕ, zero, suc, ◌*◌, max, eqb, leb, length}
+use Rattle.std.specs.Prelude.{Bool, false, cond, ◌&&◌, ◌||◌, List, [], ◌∷◌, ◌++◌, map, ℕ, zero, suc, ◌*◌, max, eqb, leb, length}
 use Rattle.format.specs.Bytes.{part}
 use Rattle.types.specs.declared.RowRecord.{RowRecord}
 

@@ -11,21 +11,21 @@ pub type Md5Hash = [u8; 16];
 pub type Id16 = [u8; 16];
 
 // The checksums of one slice, zero-padded to the slice size.
-#[derive(Drop)]
+#[derive(Clone, Copy)]
 pub struct SliceChecksum {
     pub md5: Md5Hash,
     pub crc32: u32,
 }
 
 // A kept row: its exponent, and the slot of the store that holds its data.
-#[derive(Drop)]
+#[derive(Clone, Copy)]
 pub struct RowRecord {
     pub exponent: u32,
     pub slot: u32,
 }
 
 // How reading one volume ended.
-#[derive(Drop)]
+#[derive(Clone, Copy)]
 pub enum VolumeEnd {
     // To its end: the volume carries no more rows than were seen.
     Complete,
@@ -36,7 +36,7 @@ pub enum VolumeEnd {
 }
 
 // What reading one volume found. `seen` counts packets passed over unwanted too, whose digest nobody tests.
-#[derive(Drop)]
+#[derive(Clone, Copy)]
 pub struct VolumeScan {
     pub seen: u64,
     pub kept: u64,
@@ -46,21 +46,21 @@ pub struct VolumeScan {
 }
 
 // A bound that may be absent.
-#[derive(Drop)]
+#[derive(Clone, Copy)]
 pub enum Bound {
     Absent,
     AtMost(u64),
 }
 
 // How many rows a reader may hold: the tighter of the two bounds.
-#[derive(Drop)]
+#[derive(Clone, Copy)]
 pub struct RecoveryBudget {
     pub max_rows: Bound,
     pub max_bytes: Bound,
 }
 
 // Why a call was refused, in the order of the numbers, 1 to 11.
-#[derive(Drop)]
+#[derive(Clone, Copy)]
 pub enum Refusal {
     BadSliceSize,
     BadCapacity,
@@ -76,14 +76,14 @@ pub enum Refusal {
 }
 
 // What a call that only changes its state or what it was lent has to say.
-#[derive(Drop)]
+#[derive(Clone, Copy)]
 pub enum Answer {
     Done,
     Refused(Refusal),
 }
 
 // What reading a volume has to say. A refused volume has no scan, so that no ending can be mistaken for one.
-#[derive(Drop)]
+#[derive(Clone, Copy)]
 pub enum VolumeAnswer {
     Scanned(VolumeScan),
     Refused(Refusal),

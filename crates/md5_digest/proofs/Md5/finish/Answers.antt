@@ -1,11 +1,10 @@
 use Rattle.std.proofs.Common.{ℕ, List, ap, ◌∙◌, arith}
 use Rattle.md5_digest.specs.Rfc1321.{run, output}
-use Rattle.md5_digest.specs.declared.Md5.{Md5}
 use Rattle.md5_digest.proofs.Stream.{finish-short, finish-long}
 use Rattle.md5_digest.proofs.Md5.finish.Goals as goal
 
-pub returns-then-held-lt56 : goal.returns-then-held-lt56
-returns-then-held-lt56 c =
+pub returns-then-fits : goal.returns-then-fits
+returns-then-fits c =
     c.output_of.ensures ∙ ap output c.absorb.ensures
     ∙ finish-short c.args.self (omega arith) (omega arith) c.lay-last.ensures c.with_length-block.ensures
 

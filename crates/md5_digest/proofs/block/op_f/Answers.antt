@@ -1,4 +1,4 @@
-use Rattle.std.proofs.Common.{ℕ, ◌+◌, ◌*◌, ◌%◌, List, get_or, arith}
+use Rattle.std.proofs.Common.{ℕ, ◌+◌, ◌*◌, List, get_or, arith}
 use Rattle.md5_digest.specs.Rfc1321.{words}
 use Rattle.md5_digest.proofs.Operations.{operation, mix_f_lem, get_or-words}
 use Rattle.md5_digest.proofs.block.op_f.Goals as goal
