@@ -7,8 +7,8 @@ cd "$top"
 crates=$(dpkg -L librust-md-5-dev 2>/dev/null | sed -n 's|/[^/]*/Cargo.toml$||p' | head -n 1)
 [ -n "$crates" ] || { echo "the crate md-5 is not installed: see bench/README.md" >&2; exit 2; }
 if [ "$(uname -m)" = x86_64 ]; then
-    rt staticlib dulavimorf
-    LIB_DIR=$top/target/staticlib
+    (cd crates/dulavimorf && rt lib)
+    LIB_DIR=$top/crates/dulavimorf/out
 else
     LIB_DIR=$top/target/bench/native
     "$here/native.sh" "$LIB_DIR"
