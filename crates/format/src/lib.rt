@@ -1,2 +1,2 @@
-// stub
+// The packet layout as definitions. The code that reads by them is not written yet.
 #![tactic(auto)]
