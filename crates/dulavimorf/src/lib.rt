@@ -1,4 +1,4 @@
-// The calls for programs in C or Rust. `rt staticlib dulavimorf` puts them into one library. A state is the fields of its struct,
+// The calls for programs in C or Rust. `rt lib` in this folder puts them into one library. A state is the fields of its struct,
 // each behind a pointer of its own; bytes are a pointer and a length.
 #![tactic(auto)]
 

@@ -63,10 +63,11 @@ fn in_two(s: &[u8], k: usize) -> [u8; 16]
 }
 
 // In how many of the places where s can be cut in two the pieces give the digest.
-fn agreeing(s: &[u8], digest: [u8; 16]) -> u64 {
+fn agreeing(s: &[u8], digest: &[u8]) -> u64 {
     let mut count: u64 = 0;
     for k in 0..s.len() + 1 {
-        if in_two(s, k) == digest {
+        let pieces = in_two(s, k);
+        if &pieces[..] == digest {
             count += 1;
         }
     }
@@ -78,7 +79,7 @@ fn line(rt: &impl Print, s: &[u8]) -> io::Result<()> {
     let digest = md5_digest::digest(s);
     print!(rt; "{len} ")?;
     print_digest(rt, &digest)?;
-    let cuts = agreeing(s, digest);
+    let cuts = agreeing(s, &digest);
     println!(rt; " {cuts}")
 }
 
