@@ -2,6 +2,7 @@
 use mathlib.Core.Path.{sym, ◌∙◌}
 use Rattle.determined.specs.Determined.{Determined}
 use Rattle.crc32.proofs.Crc32 as Crc32
+use Rattle.crc32.proofs.pieces.Crc32InPieces as Pieces
 use Rattle.crc32.proofs.checksum as whole
 
 pub new : Determined 0 Crc32.new.Kinds.ps Crc32.new.Kinds.r Crc32.new.Reads.Learnt
@@ -15,3 +16,14 @@ finish κs a x y e f p q = p ∙ sym q
 
 pub checksum : Determined 1 whole.Kinds.ps whole.Kinds.r whole.Reads.Learnt
 checksum κs a x y e f p q = p ∙ sym q
+
+-- the same by the trait
+
+pub pieces-new : Determined 0 Pieces.new.Kinds.ps Pieces.new.Kinds.r Pieces.new.Reads.Learnt
+pieces-new κs a x y e f p q = p ∙ sym q
+
+pub pieces-update : Determined 1 Pieces.update.Kinds.ps Pieces.update.Kinds.r Pieces.update.Reads.Learnt
+pieces-update κs a x y e f p q = p ∙ sym q
+
+pub pieces-finish : Determined 0 Pieces.finish.Kinds.ps Pieces.finish.Kinds.r Pieces.finish.Reads.Learnt
+pieces-finish κs a x y e f p q = p ∙ sym q

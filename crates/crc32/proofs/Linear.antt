@@ -1,28 +1,13 @@
--- Xor is associative, and the register's bit steps are linear over it: so a register's bytes or nibbles can be looked up apart. Assumes nothing.
+-- The register's bit steps are linear over xor: so a register's bytes can be looked up apart. Assumes nothing.
 use mathlib.Core.Path.{◌≡◌, refl, ap, ap₂, ◌∙◌}
 use Prim.Native.Nat.{ℕ, zero, suc, ◌+◌, ◌*◌, ◌/◌, ◌%◌, ◌^◌, ◌<◌}
-use native.Mathlib.Nat.{mul-one, mul-add, mod-lt, suc-add, zero-add, zero-lt-suc}
+use native.Mathlib.Nat.{mul-one, mul-add, mod-lt, suc-add, zero-add}
 use native.Mathlib.Omega.{arith}
-use lib.Arith.{bin_ind}
-use lib.Bits.{bit_xor, xor_add_and, xor_shr, xor_mod, xor_comm, xor_zero_r, xor_shifted, shifted_half, shifted_even}
+use lib.Bits.{bit_xor, xor_assoc, xor_shr, xor_mod, xor_comm, xor_zero_r, xor_shifted, shifted_half, shifted_even}
 use lib.Pow.{pow_pos, split}
 use Rattle.crc32.specs.Crc.{polynomial, bit_step, steps}
 
 -- ---- xor
-
-assoc-step : (a b c : ℕ) → bit_xor (bit_xor (a / 2) (b / 2)) (c / 2) ≡ bit_xor (a / 2) (bit_xor (b / 2) (c / 2))
-    → bit_xor (bit_xor a b) c ≡ bit_xor a (bit_xor b c)
-assoc-step a b c e =
-    let halves : bit_xor (bit_xor a b) c / 2 ≡ bit_xor a (bit_xor b c) / 2 =
-    cc (xor_shr (bit_xor a b) c 1, xor_shr a b 1, xor_shr a (bit_xor b c) 1, xor_shr b c 1) in
-    omega (arith, xor_add_and (bit_xor a b) c, xor_add_and a b, xor_add_and a (bit_xor b c), xor_add_and b c)
-
-pub xor_assoc : (a b c : ℕ) → bit_xor (bit_xor a b) c ≡ bit_xor a (bit_xor b c)
-xor_assoc =
-    bin_ind
-    (λ (a : ℕ). (b c : ℕ) → bit_xor (bit_xor a b) c ≡ bit_xor a (bit_xor b c))
-    (λ b c. refl)
-    (λ a ih b c. assoc-step a b c (ih (b / 2) (c / 2)))
 
 xor-swap : (p q r s : ℕ) → bit_xor (bit_xor p q) (bit_xor r s) ≡ bit_xor (bit_xor p r) (bit_xor q s)
 xor-swap p q r s = cc (xor_assoc p q (bit_xor r s), xor_assoc q r s, xor_comm q r, xor_assoc r q s, xor_assoc p r (bit_xor q s))
@@ -34,18 +19,15 @@ digit P p q zero h = p
 digit P p q (suc zero) h = q
 digit P p q (suc (suc n)) h = absurd (omega arith)
 
-two : (n : ℕ) → n % 2 < 2
-two n = mod-lt n (zero-lt-suc 1)
-
 taps : (x y : ℕ) → bit_xor x y % 2 * polynomial ≡ bit_xor (x % 2 * polynomial) (y % 2 * polynomial)
 taps x y =
     ap (λ (u : ℕ). u * polynomial) (xor_mod x y 1)
     ∙ digit
     (λ (u : ℕ). bit_xor u (y % 2) * polynomial ≡ bit_xor (u * polynomial) (y % 2 * polynomial))
     refl
-    (digit (λ (v : ℕ). bit_xor 1 v * polynomial ≡ bit_xor polynomial (v * polynomial)) refl refl (y % 2) (two y))
+    (digit (λ (v : ℕ). bit_xor 1 v * polynomial ≡ bit_xor polynomial (v * polynomial)) refl refl (y % 2) (omega arith))
     (x % 2)
-    (two x)
+    (omega arith)
 
 step-xor : (x y : ℕ) → bit_step (bit_xor x y) ≡ bit_xor (bit_step x) (bit_step y)
 unfolding bit_step

@@ -1,17 +1,22 @@
--- How the bytes of a message go into the register: one, or a word, by the rows of a table, and sixteen as four words apart. Assumes nothing.
+-- How the bytes of a message go into the register: one, or a word, by the rows of a table, sixteen as four words apart, and chunk by chunk.
+-- Assumes nothing.
 use mathlib.Core.Path.{◌≡◌, refl, sym, ap, ◌∙◌}
-use mathlib.Core.List.{List, [], ◌∷◌, ◌++◌}
-use Prim.Native.Nat.{ℕ, suc, ◌+◌, ◌-◌, ◌*◌, ◌/◌, ◌%◌, ◌^◌, ◌≤◌, ◌<◌}
+use mathlib.Core.List.{List, [], ◌∷◌}
+use Prim.Native.Nat.{ℕ, zero, suc, ◌+◌, ◌*◌, ◌/◌, ◌%◌, ◌^◌, ◌≤◌, ◌<◌}
+use native.Mathlib.Nat.{zero-mul, suc-mul}
 use native.Mathlib.Numerals.{add-one}
 use native.Mathlib.Omega.{arith}
-use lib.Bits.{bit_xor, xor_comm, xor_shifted}
-use lib.ListN.{length, get_or, take, drop, take-append-drop, length-drop, drop_of_length-le}
+use lib.Bits.{bit_xor, xor_assoc, xor_comm, xor_shifted}
+use lib.ListN.{length, get_or, take, drop, take-append-drop, drop_of_length-le}
 use lib.Pow.{shr-shr}
-use lib.Seq.{drop-cons, drop-drop, take-take, take_all}
+use lib.Seq.{drop-cons, drop-drop}
 use Rattle.crc32.specs.Crc.{steps, crc_of}
 use Rattle.crc32.specs.Table.{word_at}
-use Rattle.crc32.proofs.Linear.{xor_assoc, steps-xor, steps-add, steps-out, steps_low}
+use Rattle.crc32.proofs.Linear.{steps-xor, steps-add, steps-out, steps_low}
 use Rattle.crc32.proofs.Lists.{firsts, take-firsts}
+use Rattle.std.proofs.Common.{fold}
+use Rattle.std.specs.Simd.{first_chunks}
+use Rattle.crc32.specs.Laws.{crc-append}
 
 -- ---- parts of a message
 
@@ -19,35 +24,31 @@ crc-nil : (r : ℕ) → crc_of r [] ≡ r
 unfolding crc_of
 crc-nil r = refl
 
-pub crc-append : (r : ℕ) (a b : List ℕ) → crc_of r (a ++ b) ≡ crc_of (crc_of r a) b
-unfolding crc_of
-crc-append r [] b = refl
-crc-append r (x ∷ a) b = crc-append (steps 8 (bit_xor r x)) a b
-
--- the byte at i, and then the rest
-pub crc-next : (s : List ℕ) (i q : ℕ) {b u : ℕ} → i < length s → b ≡ get_or s i 0 → u ≡ steps 8 (bit_xor q b) → crc_of u (drop (i + 1) s) ≡ crc_of q (drop i s)
-unfolding crc_of
-crc-next s i q h eb eu = rw (eu, eb, add-one, drop-cons s i 0)
-
--- n bytes from i on, and then the rest
-pub crc-part : (s : List ℕ) (i q n : ℕ) {u : ℕ} → u ≡ crc_of q (take n (take (i + n - i) (drop i s))) → crc_of u (drop (i + n) s) ≡ crc_of q (drop i s)
-crc-part s i q n e = rw (e, take-take n (i + n - i) (drop i s) (omega arith), ← crc-append, ← drop-drop, take-append-drop)
-
--- all the bytes from i on
-pub crc-rest : (s : List ℕ) (i q : ℕ) {u : ℕ} → u ≡ crc_of q (take (length s - i) (drop i s)) → u ≡ crc_of q (drop i s)
-crc-rest s i q e = e ∙ ap (crc_of q) (take_all (length s - i) (drop i s) (simp length-drop (omega arith)))
-
 pub crc-end : (s : List ℕ) (i q : ℕ) → length s ≤ i → crc_of q (drop i s) ≡ q
 crc-end s i q h = rw drop_of_length-le (crc-nil q)
 
--- ---- by the tables
+-- byte by byte
+pub crc-bytes : (r : ℕ) (s : List ℕ) {u : ℕ} → u ≡ fold (λ q b. steps 8 (bit_xor q b)) r s → u ≡ crc_of r s
+unfolding crc_of
+crc-bytes r [] e = e
+crc-bytes r (b ∷ s) e = crc-bytes (steps 8 (bit_xor r b)) s e
 
-pub byte-law : (x : ℕ) {p q : ℕ} → p ≡ steps 4 (x / 2 ^ 4 % 2 ^ 4) → q ≡ steps 8 (x % 2 ^ 4) → bit_xor (bit_xor (x / 2 ^ 8) p) q ≡ steps 8 x
+-- the first k chunks of n bytes, and then the rest
+crc-front : (n k r : ℕ) (s : List ℕ) → crc_of (fold crc_of r (first_chunks n k s)) (drop (k * n) s) ≡ crc_of r s
+crc-front n zero r s = rw zero-mul
+crc-front n (suc k) r s =
+    let more : suc k * n ≡ n + k * n = omega (arith, suc-mul k n) in
+    rw (more, ← drop-drop, crc-front n k (crc_of r (take n s)) (drop n s), ← crc-append, take-append-drop)
+
+pub crc-chunks : (n k r : ℕ) (s : List ℕ) {front : List (List ℕ)} {back : List ℕ} {q u : ℕ}
+    → front ≡ first_chunks n k s → back ≡ drop (k * n) s → u ≡ crc_of q back → q ≡ fold crc_of r front → u ≡ crc_of r s
+crc-chunks n k r s ef eb eu eq = rw (eu, eq, ef, eb) (crc-front n k r s)
+
+-- ---- by the table
+
+pub byte-law : (x : ℕ) {p : ℕ} → p ≡ steps 8 (x % 2 ^ 8) → bit_xor (x / 2 ^ 8) p ≡ steps 8 x
 unfolding steps
-byte-law x hp hq = cc (steps_low 4 1 x, steps_low 4 0 (x / 2 ^ 4), shr-shr x 4 4)
-
-pub whole-law : (x : ℕ) {p q : ℕ} → p ≡ steps 16 (x / 2 ^ 16) → q ≡ steps 32 (x % 2 ^ 16) → bit_xor p q ≡ steps 32 x
-whole-law x hp hq = cc (steps_low 16 1 x)
+byte-law x h = cc (steps_low 8 0 x)
 
 -- each w bits of x by the row for the bits after them
 pub four-law : (w k x : ℕ) {p q r s : ℕ}

@@ -1,4 +1,4 @@
--- What the tables of src/table.rt hold, and the words that they are asked for.
+-- What the table of src/table.rt holds, and the words that it is asked for.
 use Rattle.std.specs.Prelude.{◌≡◌, List, [], ℕ, ◌+◌, ◌*◌, ◌^◌, ◌<◌, get_or}
 use Rattle.crc32.specs.Crc.{steps}
 

@@ -4,4 +4,4 @@ use Rattle.crc32.proofs.Crc32.update.Goals as goal
 
 pub returns : goal.returns
 unfolding feed
-returns c = ap (λ (r : ℕ). record { register = r }) c.register_after.ensures
+returns c = ap (λ (r : ℕ). record { register = r }) c.sixteens.ensures
