@@ -1,8 +1,9 @@
--- The laws of the block function: the words and shift amounts of an operation, G as a sum, a line of a round, a block.
+-- The laws of the block function: the words and shift amounts of an operation, G as a sum, an operation as it is computed, a line of a round.
 -- Assumes nothing.
-use Rattle.std.proofs.Common.{◌≡◌, ℕ, zero, suc, ◌+◌, ◌-◌, ◌*◌, ◌/◌, ◌%◌, ◌^◌, ◌<◌, min, Bool, true, false, T, eqb, ltb, List, [], ◌∷◌, get_or, sym, refl, ap, ◌∙◌, subst, ap₂, ⊎_elim, le_of_suc-le-suc, not-suc-le-zero, eq-zero-or-pos, eq-or-lt_of_le, pow-suc, add-one, arith, eqb→eq, ltb→lt, le-ltb, lt-ltb}
+use Rattle.std.proofs.Common.{◌≡◌, ℕ, zero, suc, ◌+◌, ◌-◌, ◌*◌, ◌/◌, ◌%◌, ◌^◌, ◌<◌, min, Bool, true, false, T, eqb, ltb, List, [], ◌∷◌, get_or, sym, ap, ◌∙◌, subst, ap₂, ⊎_elim, le_of_suc-le-suc, not-suc-le-zero, eq-zero-or-pos, eq-or-lt_of_le, pow-suc, add-one, arith, eqb→eq, ltb→lt, le-ltb, lt-ltb}
+use Rattle.std.specs.Int.{w32, rotate_left}
 use lib.Bits.{bit_and, and_step, and_shr, and_zero_r, and_zero_l, or_disjoint}
-use Rattle.md5_digest.specs.Rfc1321.{not32, rotl, mix_f, mix_g, mix_h, mix_i, mix_of, words, shifts, sines, word_at, step_with, step_of, steps_of, block_of}
+use Rattle.md5_digest.specs.Rfc1321.{not32, mix_f, mix_g, mix_h, mix_i, mix_of, words, shifts, sines, word_at, step_with, step_of, steps_of}
 
 -- ---- a test that antt computes, at each number below n
 
@@ -82,20 +83,24 @@ apart-any b c d =
     (λ (h : 0 < not32 d). apart 32 b c d (omega arith))
     (eq-zero-or-pos (not32 d))
 
-sum-g : (a b c d x t : ℕ) → (a + bit_and b d + (x + bit_and c (not32 d)) % 2 ^ 32 + t) % 2 ^ 32 ≡ (a + mix_g b c d + x + t) % 2 ^ 32
+pub sum-g : (a b c d x t : ℕ) → (a + bit_and b d + (x + bit_and c (not32 d)) % 2 ^ 32 + t) % 2 ^ 32 ≡ (a + mix_g b c d + x + t) % 2 ^ 32
 sum-g a b c d x t = omega (arith, or_disjoint (bit_and b d) (bit_and c (not32 d)) (apart-any b c d))
 
-pub step-g : (q : List ℕ) (x t s : ℕ) {r : List ℕ} {y : ℕ}
-    → r ≡ step_with (bit_and (get_or q 1 0) (get_or q 3 0)) y t s q
-    → y ≡ (x + bit_and (get_or q 2 0) (not32 (get_or q 3 0))) % 2 ^ 32
-    → r ≡ step_with (mix_g (get_or q 1 0) (get_or q 2 0) (get_or q 3 0)) x t s q
-unfolding step_with
-step-g q x t s {r} {y} e ey =
-    let sums : (get_or q 0 0 + bit_and (get_or q 1 0) (get_or q 3 0) + y + t) % 2 ^ 32 ≡ (get_or q 0 0 + mix_g (get_or q 1 0) (get_or q 2 0) (get_or q 3 0) + x + t) % 2 ^ 32 =
-    rw ey (sum-g (get_or q 0 0) (get_or q 1 0) (get_or q 2 0) (get_or q 3 0) x t) in
-    e ∙ ap (λ (w : ℕ). get_or q 3 0 ∷ (get_or q 1 0 + rotl w s) % 2 ^ 32 ∷ get_or q 1 0 ∷ get_or q 2 0 ∷ []) sums
-
 -- ---- an operation, by its round
+
+-- the code's sum and rotation make an operation
+pub step-made : (q : List ℕ) (f x t s : ℕ) {v r : ℕ}
+    → v ≡ (get_or q 0 0 + f + (x + t) % 2 ^ 32) % 2 ^ 32
+    → r ≡ rotate_left w32 v s
+    → 0 < s
+    → s < 32
+    → get_or q 3 0 ∷ (get_or q 1 0 + r) % 2 ^ 32 ∷ get_or q 1 0 ∷ get_or q 2 0 ∷ [] ≡ step_with f x t s q
+unfolding step_with
+step-made q f x t s ev er h h' =
+    let sums : (get_or q 0 0 + f + (x + t) % 2 ^ 32) % 2 ^ 32 ≡ (get_or q 0 0 + f + x + t) % 2 ^ 32 = omega arith in
+    let by : s % 32 ≡ s = omega arith in
+    let rest : (32 - s % 32) % 32 ≡ 32 - s = omega arith in
+    rw (er, ev, sums, rest, by)
 
 module _ (p q : List ℕ) (base n : ℕ) (k : ℕ) {r : List ℕ} {f x t s : ℕ} where
   pub operation : r ≡ step_with f x t s q
@@ -125,16 +130,19 @@ module _ (n x y z : ℕ) (h : n < 16) where
   unfolding mix_of
   mix_i_lem = rw (le-ltb (48 + n) 16 (omega arith), le-ltb (48 + n) 32 (omega arith), le-ltb (48 + n) 48 (omega arith))
 
--- ---- a round, by its lines; a block, by its rounds
+-- the sum of a round whose function of b, c and d is m
+pub sum-made : (base : ℕ) (q : List ℕ) (x : ℕ) {m r : ℕ}
+    → ((n : ℕ) → n < 16 → m ≡ mix_of (base + n) (get_or q 1 0) (get_or q 2 0) (get_or q 3 0))
+    → r ≡ (get_or q 0 0 + m + x) % 2 ^ 32
+    → (n : ℕ) → n < 16 → r ≡ (get_or q 0 0 + mix_of (base + n) (get_or q 1 0) (get_or q 2 0) (get_or q 3 0) + x) % 2 ^ 32
+sum-made base q x em er n h = rw (← em n h, er)
+
+-- ---- a round, by its operations
 
 module _ (p : List ℕ) (i : ℕ) (st : List ℕ) where
   step-more : (n m : ℕ) {q r : List ℕ} → m ≡ n + 1 → q ≡ steps_of p i n st → r ≡ step_of p (i + n) q → r ≡ steps_of p i m st
   unfolding steps_of
   step-more n m e eq er = er ∙ rw (e, add-one, eq)
-
-  pub line-none : st ≡ steps_of p i (4 * 0) st
-  unfolding steps_of
-  line-none = refl
 
   pub line-more : (j : ℕ) {q a b c d : List ℕ}
       → q ≡ steps_of p i (4 * j) st
@@ -148,19 +156,3 @@ module _ (p : List ℕ) (i : ℕ) (st : List ℕ) where
       step-more (4 * j + 3) (4 * (j + 1)) (omega arith)
       (step-more (4 * j + 2) (4 * j + 3) (omega arith)
       (step-more (4 * j + 1) (4 * j + 2) (omega arith) (step-more (4 * j + 0) (4 * j + 1) (omega arith) (eq ∙ ap (λ (n : ℕ). steps_of p i n st) first) ea) ed) ec) eb
-
-  pub lines-all : (j : ℕ) {q : List ℕ} → j ≡ 4 → q ≡ steps_of p i (4 * j) st → q ≡ steps_of p i 16 st
-  lines-all j e eq = eq ∙ ap (λ (n : ℕ). steps_of p i n st) (omega arith)
-
-pub rounds : (p st : List ℕ) {s₁ s₂ s₃ s₄ : List ℕ} {a b c d : ℕ}
-    → s₁ ≡ steps_of p 0 16 st
-    → s₂ ≡ steps_of p 16 16 s₁
-    → s₃ ≡ steps_of p 32 16 s₂
-    → s₄ ≡ steps_of p 48 16 s₃
-    → a ≡ (get_or st 0 0 + get_or s₄ 0 0) % 2 ^ 32
-    → b ≡ (get_or st 1 0 + get_or s₄ 1 0) % 2 ^ 32
-    → c ≡ (get_or st 2 0 + get_or s₄ 2 0) % 2 ^ 32
-    → d ≡ (get_or st 3 0 + get_or s₄ 3 0) % 2 ^ 32
-    → ◌≡◌ {A = List ℕ} (a ∷ b ∷ c ∷ d ∷ []) (block_of p st)
-unfolding block_of
-rounds p st e₁ e₂ e₃ e₄ ea eb ec ed = cc

@@ -1,2 +1,3 @@
 pub mod Rfc1321
 pub mod Pieces
+pub mod Laws

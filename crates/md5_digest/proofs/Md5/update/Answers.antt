@@ -1,4 +1,4 @@
-use Rattle.std.proofs.Common.{◌≡◌, ℕ, ◌-◌, ◌%◌, List, length, take, drop, ap, ◌∙◌, arith, length-drop, take_all}
+use Rattle.std.proofs.Common.{◌≡◌, ℕ, ◌+◌, ◌-◌, ◌%◌, ◌^◌, List, length, take, drop, refl, ap, ◌∙◌, arith, length-drop, take_all}
 use Rattle.md5_digest.specs.Rfc1321.{run}
 use Rattle.md5_digest.specs.Pieces.{rest, fill}
 use Rattle.md5_digest.specs.declared.Md5.{Md5}
@@ -6,10 +6,10 @@ use Rattle.md5_digest.proofs.Stream.{feed-even, feed-short, feed-long}
 use Rattle.md5_digest.proofs.Md5.update.Goals as goal
 
 pub returns-then-held-eq0 : goal.returns-then-held-eq0
-returns-then-held-eq0 c = feed-even c.args.self (omega arith) c.args.«data».now (omega arith) c.taken.ensures c.wrapping_add_u64-fed.ensures.value
+returns-then-held-eq0 c = feed-even c.args.self (omega arith) c.args.«data».now (omega arith) c.taken.ensures refl
 
 pub returns-then-data-room : goal.returns-then-data-room
-returns-then-data-room c = feed-short c.args.self (omega arith) c.args.«data».now (omega arith) c.lay-tail.ensures c.wrapping_add_u64-fed.ensures.value
+returns-then-data-room c = feed-short c.args.self (omega arith) c.args.«data».now (omega arith) c.lay-tail.ensures refl
 
 pub returns : goal.returns
 returns c =
@@ -17,8 +17,8 @@ returns c =
     let a : List ℕ = c.args.«data».now in
     let room : ℕ = 64 - self.fed % 64 in
     let q : List ℕ = c.absorb-state.result in
-    let f : ℕ = c.wrapping_add_u64-fed.result in
+    let f : ℕ = (self.fed + length a) % 2 ^ 64 in
     let all : take (length a - room) (drop room a) ≡ drop room a = take_all (length a - room) (drop room a) (omega (arith, length-drop room a)) in
     feed-long self (omega arith) a room (omega arith) (omega arith) c.lay-first.ensures c.absorb-state.ensures
     (c.taken-2.ensures ∙ ap (λ (l : List ℕ). record { state = run l q; tail = fill (rest l); fed = f }) all)
-    c.wrapping_add_u64-fed.ensures.value
+    refl

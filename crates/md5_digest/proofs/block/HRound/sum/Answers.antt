@@ -1,0 +1,6 @@
+use Rattle.std.proofs.Common.{arith}
+use Rattle.md5_digest.proofs.Operations.{sum-made, mix_h_lem}
+use Rattle.md5_digest.proofs.block.HRound.sum.Goals as goal
+
+pub returns : goal.returns
+returns c = sum-made 32 c.args.q c.args.x (λ n h. mix_h_lem n _ _ _ h) (omega arith)

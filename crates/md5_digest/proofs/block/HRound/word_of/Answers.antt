@@ -1,0 +1,8 @@
+use Rattle.std.proofs.Common.{ℕ, ◌+◌, ◌*◌, ◌%◌, sym}
+use Rattle.md5_digest.specs.Rfc1321.{words}
+use Rattle.md5_digest.proofs.Operations.{get_or-words}
+use Rattle.md5_digest.proofs.block.HRound.word_of.Goals as goal
+
+pub returns-clause-is : goal.returns-clause-is
+unfolding words
+returns-clause-is c = sym (get_or-words 32 (λ (n : ℕ). (5 + 3 * n) % 16) tt c.args.n c.requires)

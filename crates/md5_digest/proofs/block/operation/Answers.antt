@@ -1,0 +1,31 @@
+use Rattle.std.proofs.Common.{◌≡◌, ℕ, ◌+◌, ◌*◌, ◌<◌, List, [], get_or, refl, sym, ap, ◌∙◌, arith}
+use Rattle.std.specs.Simd.{first_chunks}
+use Rattle.in_pieces.proofs.Chunks.{get_or-first_chunks}
+use Rattle.md5_digest.specs.Rfc1321.{sines, shifts, mix_of, word_at}
+use Rattle.md5_digest.proofs.Operations.{shift-range, step-made, operation}
+use Rattle.md5_digest.proofs.block.operation.Goals as goal
+
+word-of : (s : List ℕ) (k i : ℕ) {ws : List (List ℕ)} {r : ℕ} → ws ≡ first_chunks 4 k s → i < k → r ≡ word_at (get_or ws i []) 0 → r ≡ word_at s (4 * i)
+word-of s k i e l er =
+    let at : (j : ℕ) → j < 4 → get_or (get_or (first_chunks 4 k s) i []) j 0 ≡ get_or s (i * 4 + j) 0 = λ j h. get_or-first_chunks 4 k s i j l h in
+    let first : i * 4 + 0 ≡ 4 * i = omega arith in
+    let four : i * 4 ≡ 4 * i = omega arith in
+    er ∙ rw (e, at 0 (omega arith), at 1 (omega arith), at 2 (omega arith), at 3 (omega arith), first, four)
+
+pub returns : goal.returns
+unfolding shifts
+returns g c =
+    let q : List ℕ = c.args.q in
+    let first : ℕ = g.R.Round.FIRST in
+    let n : ℕ = c.args.n in
+    let i : ℕ = c.FIRST.result + n in
+    let at : i ≡ first + n = ap (λ (k : ℕ). k + n) c.FIRST.ensures in
+    let f : ℕ = mix_of (first + n) (get_or q 1 0) (get_or q 2 0) (get_or q 3 0) in
+    let range : (0 < get_or shifts i 0) × (get_or shifts i 0 < 32) = shift-range i (omega (arith, g.met.R.Round.within)) in
+    let word : c.from_le_bytes-x.result ≡ word_at c.args.p.now (4 * c.word_of.result) =
+    word-of c.args.p.now _ c.word_of.result c.as_chunks.ensures.front (omega (arith, c.word_of.ensures.below)) (omega (arith, c.from_le_bytes-x.ensures)) in
+    operation c.args.p.now q first n c.word_of.result
+    (step-made q f c.from_le_bytes-x.result c.at.result (get_or shifts i 0) (c.sum-sum.ensures n c.requires) c.rotate_left.ensures range.0 range.1)
+    refl word (sym c.word_of.ensures.is)
+    (c.at.ensures ∙ ap (λ (k : ℕ). get_or sines k 0) at)
+    (ap (λ (k : ℕ). get_or shifts k 0) at)
