@@ -1,5 +1,6 @@
 // The calls for programs in C or Rust. `rt lib` in this folder puts them into one library. A state is the fields of its struct,
-// each behind a pointer of its own; bytes are a pointer and a length.
+// each behind a pointer of its own, since that is what C passes; bytes are a pointer and a length.
+// An array in a field is read into a variable before it is stored: the borrow checker covers no other way yet.
 #![tactic(auto)]
 
 ghost use Rattle.std.specs.Prelude.{◌≡◌};
@@ -33,18 +34,16 @@ pub extern "C" fn dulavimorf_md5_update(
 )
     ensures { ◌≡◌ {A = Digest} (record { state = state.new; tail = tail.new; fed = fed.new }) (feed_digest (record { state = state.old; tail = tail.old; fed = fed.old }) «data».now) }
 {
-    let s = *state;
-    let t = *tail;
     let m = Md5 {
-        state: s,
-        tail: t,
+        state: *state,
+        tail: *tail,
         fed: *fed,
     };
     let n = m.update(data);
-    let s2 = n.state;
-    let t2 = n.tail;
-    *state = s2;
-    *tail = t2;
+    let s = n.state;
+    let t = n.tail;
+    *state = s;
+    *tail = t;
     *fed = n.fed;
 }
 
@@ -57,23 +56,19 @@ pub extern "C" fn dulavimorf_md5_finish(
 )
     ensures { out.new ≡ finish_digest (record { state = state.now; tail = tail.now; fed = fed }) }
 {
-    let s = *state;
-    let t = *tail;
     let m = Md5 {
-        state: s,
-        tail: t,
+        state: *state,
+        tail: *tail,
         fed: fed,
     };
-    let d = m.finish();
-    *out = d;
+    *out = m.finish();
 }
 
 #[unsafe(no_mangle)]
 pub extern "C" fn dulavimorf_md5(data: &[u8], out: &mut [u8; 16])
     ensures { out.new ≡ md5 «data».now }
 {
-    let d = md5_digest::digest(data);
-    *out = d;
+    *out = md5_digest::digest(data);
 }
 
 #[unsafe(no_mangle)]

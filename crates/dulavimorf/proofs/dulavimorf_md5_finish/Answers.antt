@@ -1,4 +1,4 @@
 use Rattle.dulavimorf.proofs.dulavimorf_md5_finish.Goals as goal
 
 pub returns : goal.returns
-returns c = c.finish-d.ensures
+returns c = c.finish.ensures
