@@ -1,15 +1,9 @@
 -- What any bytes bring, whatever the reader's rows and limit: the good packets at the places where the scan stands. `held_any` says that the scan
 -- of any bytes takes in just that, one after the other.
-use mathlib.Core.Bool.{Bool, true, false, cond}
-use mathlib.Core.List.{List, [], ◌∷◌, ◌++◌}
-use mathlib.Core.Path.{◌≡◌, refl, sym, ap, ap₂, ◌∙◌}
-use Prim.Native.Nat.{ℕ, zero, suc, ◌+◌, ◌-◌, ◌%◌, ◌≤◌, ◌<◌}
-use native.Mathlib.Omega.{arith}
-use native.Mathlib.Nat.{le_of_suc-le-suc}
-use lib.Dec.{ltb, leb}
-use lib.ListN.{length, take, drop, take-append-drop, length-append, length-take, length-drop}
-use lib.Seq.{length-take-le, take-take, take-append_seam}
-use borrow.Author.Tests.{le-ltb, lt-ltb, ltb-false, ltb-true, leb-true, eqb-true}
+use Rattle.std.proofs.Common.{◌≡◌, ℕ, zero, suc, ◌+◌, ◌-◌, ◌%◌, ◌<◌, ◌≤◌, Bool, true, false, cond, ltb, leb, List, [], ◌∷◌, ◌++◌, length, take, drop, ap, ap₂, arith, eqb-true, le-ltb, le_of_suc-le-suc, leb-true, length-append, length-drop, length-take, length-take-le, lt-ltb, ltb-false, ltb-true, refl, sym, take-append-drop, take-take, ◌∙◌}
+use Rattle.std.proofs.Math.Seq.{take-append_seam}
+use Rattle.std.proofs.lemmas.Bool.{and_parts, cond_both}
+use Rattle.std.specs.List.{AllByRecursion}
 use Rattle.format.specs.Bytes.{same, little}
 use Rattle.format.specs.Packet.{magic, magic_of, length_of, usable_length}
 use Rattle.types.specs.declared.VolumeEnd.{VolumeEnd}
@@ -18,9 +12,8 @@ use Rattle.rules.specs.Rows.{unwanted}
 use Rattle.rules.specs.Scan.{Ask, State, Step, stop, go, Ended, exponent_of, row_of, seen_one, corrupt_one, hashed, digest_right}
 use Rattle.rules.specs.Scan.{agree, tail_end, header, stray, resync, past, ours, long_packet, packet, step, scan}
 use Rattle.rules.specs.Good.{Whole, Found, found_in, good}
-use Rattle.rules.proofs.Tests.{by-test, and_left, and_right}
+use Rattle.rules.proofs.Tests.{by-test}
 use Rattle.rules.proofs.Runs.{part-append, same-eq}
-use Rattle.rules.proofs.Numbers.{All}
 use Rattle.rules.proofs.Steps.{scan-go, scan-stop, step-tail, step-junk, step-packet, header-long}
 use Rattle.rules.proofs.Window.{resync-at, stray-le}
 use Rattle.rules.proofs.Packet.{effect, step-whole, header_at, length_at, longer}
@@ -57,10 +50,6 @@ brings set size (x ∷ xs) zero = collect (λ n. brings set size xs n) (bring se
 Cut : State → Step → Type 0
 Cut s x = (t : State) × (x ≡ stop Truncated t) × (held_of t ≡ held_of s)
 
-cut-cond : (s : State) (b : Bool) (x y : Step) → Cut s x → Cut s y → Cut s (cond b x y)
-cut-cond s true x y f g = f
-cut-cond s false x y f g = g
-
 module _ (a : Ask) (bs : List ℕ) (s : State) (l : length bs < length_of bs) where
   cut-past : (t u : State) → held_of t ≡ held_of s → Cut s (past bs t u)
   unfolding past Cut
@@ -69,31 +58,29 @@ module _ (a : Ask) (bs : List ℕ) (s : State) (l : length bs < length_of bs) wh
   cut-packet : Cut s (packet a bs s)
   unfolding packet long_packet Cut
   cut-packet =
-      cut-cond s (ours a.set bs) _ _
-      (cut-cond s (ltb (length_of bs - 64) (4 + a.size)) _ _
-      (cut-past (corrupt_one s) (corrupt_one s) refl)
-      (cut-cond s (ltb (length bs) 68) _ _ (s, refl, refl)
-      (cut-cond s (unwanted a.limit s.rows (exponent_of bs)) _ _
-      (cut-past (seen_one s) (seen_one s) refl)
-      (cut-past s (hashed a bs s) refl))))
-      (cut-past s s refl)
+      cond_both (ours a.set bs) _ _ (Cut s)
+      (λ _. cond_both (ltb (length_of bs - 64) (4 + a.size)) _ _ (Cut s) (λ _. cut-past (corrupt_one s) (corrupt_one s) refl)
+      (λ _. cond_both (ltb (length bs) 68) _ _ (Cut s) (λ _. (s, refl, refl))
+      (λ _. cond_both (unwanted a.limit s.rows (exponent_of bs)) _ _ (Cut s) (λ _. cut-past (seen_one s) (seen_one s) refl)
+      (λ _. cut-past s (hashed a bs s) refl))))
+      (λ _. cut-past s s refl)
 
 -- a header whose packet is all there
 module _ (bs : List ℕ) (big : 64 ≤ length bs) (h : header bs ≡ true) (all : length_of bs ≤ length bs) where
   usable : usable_length (length_of bs) ≡ true
   unfolding header
-  usable = and_right (same (magic_of bs) magic) (usable_length (length_of bs)) h
+  usable = (and_parts (same (magic_of bs) magic) (usable_length (length_of bs)) h).1
 
   starts : magic_of bs ≡ magic
   unfolding header
-  starts = same-eq (magic_of bs) magic (and_left (same (magic_of bs) magic) (usable_length (length_of bs)) h)
+  starts = same-eq (magic_of bs) magic (and_parts (same (magic_of bs) magic) (usable_length (length_of bs)) h).0
 
   long : 64 ≤ length_of bs
   long = header-long bs h
 
   fours : length_of bs % 4 ≡ 0
   unfolding usable_length
-  fours = eqb-true (length_of bs % 4) 0 (and_right (leb 64 (length_of bs)) _ usable)
+  fours = eqb-true (length_of bs % 4) 0 (and_parts (leb 64 (length_of bs)) _ usable).1
 
   size_is : length (whole_packet bs) ≡ length_of bs
   size_is = length-take-le (length_of bs) bs all
@@ -254,7 +241,7 @@ module _ (set : List ℕ) (size : ℕ) where
 good-long : (set : List ℕ) (size : ℕ) (p : List ℕ) → good set size p ≡ true → length (row_of size p) ≡ size
 unfolding good
 good-long set size p g =
-    let l = leb-true (4 + size) (length p - 64) (and_right (ours set p) _ (and_left _ (digest_right p) g)) in
+    let l = leb-true (4 + size) (length p - 64) (and_parts (ours set p) _ (and_parts _ (digest_right p) g).0).1 in
     simp (length-take, length-drop) (omega arith)
 
 abbrev Sized : ℕ → Bring → Type 0
@@ -262,27 +249,23 @@ Sized size nothing = Unit {0}
 Sized size (pass n) = Unit {0}
 Sized size (find n f) = length f.bytes ≡ size
 
-sized-cond : (size : ℕ) (b : Bool) (x y : Bring) → (b ≡ true → Sized size x) → (b ≡ false → Sized size y) → Sized size (cond b x y)
-sized-cond size true x y f g = f refl
-sized-cond size false x y f g = g refl
-
 sized-bring : (set : List ℕ) (size : ℕ) (bs : List ℕ) → Sized size (bring set size bs)
 unfolding bring
 sized-bring set size bs =
-    sized-cond size (ltb (length bs) 64) _ _ (λ _. tt)
-    (λ _. sized-cond size (header bs) _ _
-    (λ _. sized-cond size (ltb (length bs) (length_of bs)) _ _ (λ _. tt)
-    (λ _. sized-cond size (good set size (take (length_of bs) bs)) _ _ (good-long set size (take (length_of bs) bs)) (λ _. tt)))
+    cond_both (ltb (length bs) 64) _ _ (Sized size) (λ _. tt)
+    (λ _. cond_both (header bs) _ _ (Sized size)
+    (λ _. cond_both (ltb (length bs) (length_of bs)) _ _ (Sized size) (λ _. tt)
+    (λ _. cond_both (good set size (take (length_of bs) bs)) _ _ (Sized size) (good-long set size (take (length_of bs) bs)) (λ _. tt)))
     (λ _. tt))
 
-sized-collect : (size : ℕ) (cont : ℕ → List Found) (b : Bring) → Sized size b → ((n : ℕ) → All (λ f. length f.bytes ≡ size) (cont n))
-    → All (λ f. length f.bytes ≡ size) (collect cont b)
+sized-collect : (size : ℕ) (cont : ℕ → List Found) (b : Bring) → Sized size b → ((n : ℕ) → AllByRecursion (λ f. length f.bytes ≡ size) (cont n))
+    → AllByRecursion (λ f. length f.bytes ≡ size) (collect cont b)
 unfolding collect
 sized-collect size cont nothing h k = tt
 sized-collect size cont (pass n) h k = k (n - 1)
 sized-collect size cont (find n f) h k = (h, k (n - 1))
 
-pub sized : (set : List ℕ) (size : ℕ) (bs : List ℕ) (n : ℕ) → All (λ f. length f.bytes ≡ size) (brings set size bs n)
+pub sized : (set : List ℕ) (size : ℕ) (bs : List ℕ) (n : ℕ) → AllByRecursion (λ f. length f.bytes ≡ size) (brings set size bs n)
 unfolding brings
 sized set size [] n = tt
 sized set size (x ∷ xs) (suc n) = sized set size xs n

@@ -1,12 +1,7 @@
 -- What a good packet does to the rows and the store, and a whole one in general.
-use mathlib.Core.Bool.{Bool, true, false, cond, ◌&&◌, not}
-use mathlib.Core.List.{List, [], ◌∷◌, ◌++◌}
-use mathlib.Core.Path.{◌≡◌, refl, sym, ap, ◌∙◌}
-use Prim.Native.Nat.{ℕ, ◌+◌, ◌-◌, ◌*◌}
-use lib.Dec.{ltb, leb}
-use lib.ListN.{length}
-use lib.Seq.{paste}
-use borrow.Author.Tests.{ltb-false, ltb-true, le-leb, lt-leb}
+use Rattle.std.proofs.Common.{◌≡◌, ℕ, ◌+◌, ◌-◌, ◌*◌, Bool, true, false, cond, not, ◌&&◌, ltb, leb, List, [], ◌∷◌, ◌++◌, length, ap, le-leb, ltb-false, ltb-true, refl, sym, ◌∙◌}
+use Rattle.std.proofs.Math.Seq.{paste}
+use Rattle.std.proofs.lemmas.Bool.{lt-leb}
 use Rattle.types.specs.declared.RowRecord.{RowRecord}
 use Rattle.rules.specs.Rows.{unwanted, arrive, free, room}
 use Rattle.rules.specs.Scan.{Ask, State, exponent_of, seen_one, corrupt_one, keep_one, ours, digest_right, hashed}

@@ -1,45 +1,29 @@
 -- Taking in what good packets bring, one after the other, keeps the smallest exponents, each with the first data.
-use mathlib.Core.Bool.{Bool, true, false, ◌&&◌, ◌||◌}
-use mathlib.Core.List.{List, [], ◌∷◌, ◌++◌, append_assoc, append-nil}
-use mathlib.Core.Path.{◌≡◌, refl, sym, ap, ◌∙◌, subst}
-use Prim.Native.Nat.{ℕ, suc, ◌*◌, ◌≤◌, ◌<◌}
-use native.Mathlib.Omega.{arith}
-use lib.Dec.{eqb, leb}
-use lib.ListN.{length, length-map, length-append}
-use lib.Seq.{paste}
-use borrow.Author.Tests.{eq-eqb, ne_eqb, eqb-true, eqb-false, leb-true, leb-false}
+use Rattle.std.proofs.Common.{◌≡◌, ℕ, suc, ◌*◌, ◌<◌, ◌≤◌, Bool, true, false, ◌&&◌, ◌||◌, eqb, leb, List, [], ◌∷◌, ◌++◌, length, ap, append-nil, append_assoc, arith, eq-eqb, eqb-true, leb-false, leb-true, length-append, ne_eqb, refl, subst, sym, ◌∙◌}
+use Rattle.std.proofs.Math.Seq.{paste}
+use Rattle.std.proofs.lemmas.Bool.{and_parts, both_ways, eqb-false, false_from_ne_true, or_parts}
+use Rattle.std.proofs.lemmas.List.{map-append, length-map}
+use Rattle.std.specs.List.{AllByRecursion}
 use Rattle.types.specs.declared.RowRecord.{RowRecord}
 use Rattle.rules.specs.Rows.{exponents, slots, has, highest, unwanted, without, room, free, arrive, slot_data}
 use Rattle.rules.specs.Scan.{Ask}
 use Rattle.rules.specs.Reader.{repeats}
 use Rattle.rules.specs.Good.{Found, found_exponents, first_data}
-use Rattle.rules.proofs.Tests.{by-test, and_left, and_right, or_elim, or-false-left, or-false-right, clash, untrue}
-use Rattle.rules.proofs.Numbers.{All, In, Out, in_head, in_tail, in-cons, in-nil, in_append_left, in_append_right, in-last, different}
-use Rattle.rules.proofs.Numbers.{repeats-nil, repeats-cons, repeats-head, repeats-tail, repeats-last, le-highest, highest-in, same_or}
-use Rattle.rules.proofs.Numbers.{del, del-hit, del-miss, del-length, del-in, del-keep, del-repeats, del-gone, free-le, free-out}
+use Rattle.rules.proofs.Tests.{by-test, or_elim}
+use Rattle.rules.proofs.Numbers.{In, Out, in_head, in_tail, in-cons, in-nil, in_append_left, in_append_right, in-last, different, out_of}
+use Rattle.rules.proofs.Numbers.{repeats-nil, repeats-cons, repeats-head, repeats-tail, repeats-last, le-highest, highest-in}
+use Rattle.rules.proofs.Numbers.{del, del-length, del-in, del-keep, del-repeats, del-gone, free-le, free-out}
 use Rattle.rules.proofs.Store.{slot-here, slot-other, slot-length}
 use Rattle.rules.proofs.Held.{Held, take_in, take_in_all}
 
 -- lists
-pub all_append : {A : Type 0} (P : A → Type 0) (xs ys : List A) → All P xs → All P ys → All P (xs ++ ys)
+pub all_append : {A : Type 0} (P : A → Type 0) (xs ys : List A) → AllByRecursion P xs → AllByRecursion P ys → AllByRecursion P (xs ++ ys)
 all_append P [] ys h k = k
 all_append P (x ∷ xs) ys h k = (h.0, all_append P xs ys h.1 k)
 
-pub exponents-last : (rows : List RowRecord) (r : RowRecord) → exponents (rows ++ (r ∷ [])) ≡ exponents rows ++ (r.exponent ∷ [])
-exponents-last [] r = refl
-exponents-last (x ∷ rows) r = ap (λ (l : List ℕ). x.exponent ∷ l) (exponents-last rows r)
-
-slots-last : (rows : List RowRecord) (r : RowRecord) → slots (rows ++ (r ∷ [])) ≡ slots rows ++ (r.slot ∷ [])
-slots-last [] r = refl
-slots-last (x ∷ rows) r = ap (λ (l : List ℕ). x.slot ∷ l) (slots-last rows r)
-
-found-last : (fs : List Found) (f : Found) → found_exponents (fs ++ (f ∷ [])) ≡ found_exponents fs ++ (f.exponent ∷ [])
-found-last [] f = refl
-found-last (x ∷ fs) f = ap (λ (l : List ℕ). x.exponent ∷ l) (found-last fs f)
-
 -- what holds of each row holds still, where its exponent and slot are among the rows'
-pub all_in : (P Q : RowRecord → Type 0) (rows : List RowRecord) → All P rows
-    → ((r : RowRecord) → In r.exponent (exponents rows) → In r.slot (slots rows) → P r → Q r) → All Q rows
+pub all_in : (P Q : RowRecord → Type 0) (rows : List RowRecord) → AllByRecursion P rows
+    → ((r : RowRecord) → In r.exponent (exponents rows) → In r.slot (slots rows) → P r → Q r) → AllByRecursion Q rows
 all_in P Q [] h f = tt
 all_in P Q (r ∷ rows) h f = (
   f r (in_head r.exponent (exponents rows)) (in_head r.slot (slots rows)) h.0,
@@ -48,77 +32,54 @@ all_in P Q (r ∷ rows) h f = (
 )
 
 -- the rows without one
-without-hit : (x : ℕ) (r : RowRecord) (rows : List RowRecord) → r.exponent ≡ x → without x (r ∷ rows) ≡ rows
-unfolding without
-without-hit x r rows e = rw (eq-eqb r.exponent x e)
-
-without-miss : (x : ℕ) (r : RowRecord) (rows : List RowRecord) → (r.exponent ≡ x → ⊥) → without x (r ∷ rows) ≡ r ∷ without x rows
-unfolding without
-without-miss x r rows n = rw (ne_eqb r.exponent x n)
-
 pub without-exponents : (x : ℕ) (rows : List RowRecord) → exponents (without x rows) ≡ del x (exponents rows)
 unfolding without del
 without-exponents x [] = refl
 without-exponents x (r ∷ rows) =
-    same_or r.exponent x
-    (λ e. rw (without-hit x r rows e, del-hit x r.exponent (exponents rows) e))
-    (λ n. rw (without-miss x r rows n, del-miss x r.exponent (exponents rows) n)
-    (ap (λ (l : List ℕ). r.exponent ∷ l) (without-exponents x rows)))
+    by-test (eqb r.exponent x) (λ t. rw t) (λ t. rw t (ap (λ (l : List ℕ). r.exponent ∷ l) (without-exponents x rows)))
 
-pub without_all : (P : RowRecord → Type 0) (x : ℕ) (rows : List RowRecord) → All P rows → All P (without x rows)
+pub without_all : (P : RowRecord → Type 0) (x : ℕ) (rows : List RowRecord) → AllByRecursion P rows → AllByRecursion P (without x rows)
 unfolding without
 without_all P x [] h = tt
 without_all P x (r ∷ rows) h =
-    same_or r.exponent x
-    (λ e. rw (without-hit x r rows e) h.1)
-    (λ n. rw (without-miss x r rows n) (h.0, without_all P x rows h.1))
+    by-test (eqb r.exponent x) (λ t. rw t h.1) (λ t. rw t (h.0, without_all P x rows h.1))
 
 without-slot : (s x : ℕ) (rows : List RowRecord) → In s (slots (without x rows)) → In s (slots rows)
 unfolding without
 without-slot s x [] h = in-nil s h
 without-slot s x (r ∷ rows) h =
-    same_or r.exponent x
-    (λ e. in_tail s r.slot (slots rows) (rw (without-hit x r rows e) at h))
-    (λ n. in-cons s r.slot (slots (without x rows)) (rw (without-miss x r rows n) at h)
+    by-test (eqb r.exponent x)
+    (λ t. in_tail s r.slot (slots rows) (rw t at h))
+    (λ t. in-cons s r.slot (slots (without x rows)) (rw t at h)
     (λ e. rw e (in_head r.slot (slots rows)))
-    (λ t. in_tail s r.slot (slots rows) (without-slot s x rows t)))
+    (λ u. in_tail s r.slot (slots rows) (without-slot s x rows u)))
 
 without-slots : (x : ℕ) (rows : List RowRecord) → repeats (slots rows) ≡ false → repeats (slots (without x rows)) ≡ false
 unfolding without
 without-slots x [] h = h
 without-slots x (r ∷ rows) h =
-    same_or r.exponent x
-    (λ e. rw (without-hit x r rows e) (repeats-tail r.slot (slots rows) h))
-    (λ n. rw (without-miss x r rows n)
+    by-test (eqb r.exponent x)
+    (λ t. rw t (repeats-tail r.slot (slots rows) h))
+    (λ t. rw t
     (repeats-cons r.slot (slots (without x rows))
-    (untrue (has r.slot (slots (without x rows)))
-    (λ t. clash (has r.slot (slots rows)) (without-slot r.slot x rows t) (repeats-head r.slot (slots rows) h)))
+    (out_of r.slot (slots (without x rows)) (slots rows) (without-slot r.slot x rows) (repeats-head r.slot (slots rows) h))
     (without-slots x rows (repeats-tail r.slot (slots rows) h))))
 
 -- the data of the first
-pub first-hit : (e : ℕ) (f : Found) (fs : List Found) → e ≡ f.exponent → first_data e (f ∷ fs) ≡ f.bytes
-unfolding first_data
-first-hit e f fs h = rw (eq-eqb e f.exponent h)
-
-pub first-miss : (e : ℕ) (f : Found) (fs : List Found) → (e ≡ f.exponent → ⊥) → first_data e (f ∷ fs) ≡ first_data e fs
-unfolding first_data
-first-miss e f fs h = rw (ne_eqb e f.exponent h)
-
 first-in : (e : ℕ) (fs gs : List Found) → In e (found_exponents fs) → first_data e (fs ++ gs) ≡ first_data e fs
+unfolding first_data
 first-in e [] gs h = in-nil e h
 first-in e (f ∷ fs) gs h =
-    same_or e f.exponent
-    (λ t. first-hit e f (fs ++ gs) t ∙ sym (first-hit e f fs t))
-    (λ n. first-miss e f (fs ++ gs) n
-    ∙ in-cons e f.exponent (found_exponents fs) h (λ t. absurd (n t)) (λ i. first-in e fs gs i)
-    ∙ sym (first-miss e f fs n))
+    by-test (eqb e f.exponent)
+    (λ t. rw t)
+    (λ t. rw t (in-cons e f.exponent (found_exponents fs) h (λ q. absurd (eqb-false e f.exponent t q)) (λ i. first-in e fs gs i)))
 
 first-new : (fs : List Found) (f : Found) → Out f.exponent (found_exponents fs) → first_data f.exponent (fs ++ (f ∷ [])) ≡ f.bytes
-first-new [] f o = first-hit f.exponent f [] refl
+unfolding first_data
+first-new [] f o = rw (eq-eqb f.exponent f.exponent refl)
 first-new (g ∷ fs) f o =
-    first-miss f.exponent g (fs ++ (f ∷ []))
-    (λ e. clash (has f.exponent (found_exponents (g ∷ fs))) (rw e (in_head g.exponent (found_exponents fs))) o)
-    ∙ first-new fs f (untrue (has f.exponent (found_exponents fs)) (λ t. clash (has f.exponent (found_exponents (g ∷ fs))) (in_tail f.exponent g.exponent (found_exponents fs) t) o))
+    rw (ne_eqb f.exponent g.exponent (λ e. both_ways (has f.exponent (found_exponents (g ∷ fs))) o (rw e (in_head g.exponent (found_exponents fs)))))
+    (first-new fs f (out_of f.exponent (found_exponents fs) (found_exponents (g ∷ fs)) (in_tail f.exponent g.exponent (found_exponents fs)) o))
 
 pub highest-mem : (xs : List ℕ) → 0 < length xs → In (highest xs) xs
 highest-mem [] h = absurd (omega arith)
@@ -134,15 +95,15 @@ module _ (limit : ℕ) (rows : List RowRecord) (e : ℕ) where
 
   want-pos : unwanted limit rows e ≡ false → 0 < limit
   unfolding unwanted
-  want-pos w = omega (arith, eqb-false limit 0 (or-false-left (eqb limit 0) (has e (exponents rows)) (or-false-left old over w)))
+  want-pos w = omega (arith, eqb-false limit 0 (or_parts (eqb limit 0) (has e (exponents rows)) (or_parts old over w).0).0)
 
   pub want-new : unwanted limit rows e ≡ false → Out e (exponents rows)
   unfolding unwanted
-  want-new w = or-false-right (eqb limit 0) (has e (exponents rows)) (or-false-left old over w)
+  want-new w = (or_parts (eqb limit 0) (has e (exponents rows)) (or_parts old over w).0).1
 
   want-order : unwanted limit rows e ≡ false → leb limit (length rows) ≡ true → e < highest (exponents rows)
   unfolding unwanted
-  want-order w f = leb-false (highest (exponents rows)) e (rw f at (or-false-right old over w))
+  want-order w f = leb-false (highest (exponents rows)) e (rw f at (or_parts old over w).1)
 
   -- not wanted and not kept: limit 0, or rows at the limit and none above it
   spurn : {P : Type 0} → unwanted limit rows e ≡ true → Out e (exponents rows) → (limit ≡ 0 → P)
@@ -150,33 +111,33 @@ module _ (limit : ℕ) (rows : List RowRecord) (e : ℕ) where
   unfolding unwanted
   spurn w o f g =
       or_elim old over w
-      (λ t. or_elim (eqb limit 0) (has e (exponents rows)) t (λ z. f (eqb-true limit 0 z)) (λ h. clash (has e (exponents rows)) h o))
+      (λ t. or_elim (eqb limit 0) (has e (exponents rows)) t (λ z. f (eqb-true limit 0 z)) (λ h. absurd (both_ways (has e (exponents rows)) o h)))
       (λ t.
-      g (leb-true limit (length rows) (and_left _ (leb (highest (exponents rows)) e) t))
-      (leb-true (highest (exponents rows)) e (and_right (leb limit (length rows)) _ t)))
+      g (leb-true limit (length rows) (and_parts _ (leb (highest (exponents rows)) e) t).0)
+      (leb-true (highest (exponents rows)) e (and_parts (leb limit (length rows)) _ t).1))
 
 -- what holds after the packets fs were taken in
 pub record Inv (limit size capacity : ℕ) (fs : List Found) (h : Held) : Type 0 where
   pub once : repeats (exponents h.rows) ≡ false
   pub apart : repeats (slots h.rows) ≡ false
-  pub below : All (λ r. r.slot < capacity) h.rows
+  pub below : AllByRecursion (λ r. r.slot < capacity) h.rows
   pub few : length h.rows ≤ limit
   pub found : (e : ℕ) → In e (exponents h.rows) → In e (found_exponents fs)
   pub left : (f : ℕ) → In f (found_exponents fs) → Out f (exponents h.rows)
       → (length h.rows ≡ limit) × ((e : ℕ) → In e (exponents h.rows) → e < f)
-  pub first : All (λ r. slot_data size h.store r.slot ≡ first_data r.exponent fs) h.rows
+  pub first : AllByRecursion (λ r. slot_data size h.store r.slot ≡ first_data r.exponent fs) h.rows
   pub long : capacity * size ≤ length h.store
 
 -- the same before the row of exponent e arrives, which is new: there is room for it
 pub record Room (limit size capacity : ℕ) (fs : List Found) (e : ℕ) (rows : List RowRecord) (store : List ℕ) : Type 0 where
   pub once : repeats (exponents rows) ≡ false
   pub apart : repeats (slots rows) ≡ false
-  pub below : All (λ r. r.slot < capacity) rows
+  pub below : AllByRecursion (λ r. r.slot < capacity) rows
   pub few : length rows < limit
   pub found : (k : ℕ) → In k (exponents rows) → In k (found_exponents fs)
   pub left : (f : ℕ) → In f (found_exponents fs) → Out f (exponents rows)
       → (suc (length rows) ≡ limit) × ((k : ℕ) → In k (exponents rows) → k < f) × (e < f)
-  pub first : All (λ r. slot_data size store r.slot ≡ first_data r.exponent fs) rows
+  pub first : AllByRecursion (λ r. slot_data size store r.slot ≡ first_data r.exponent fs) rows
   pub long : capacity * size ≤ length store
   pub new : Out e (exponents rows)
   pub unseen : Out e (found_exponents fs)
@@ -203,7 +164,7 @@ module _ (limit size capacity : ℕ) (fits : limit ≤ capacity) (fs : List Foun
           first = inv.first;
           long = inv.long;
           new = new;
-          unseen = untrue (has e (found_exponents fs)) (λ i. omega (arith, (inv.left e i new).0));
+          unseen = false_from_ne_true (has e (found_exponents fs)) (λ i. omega (arith, (inv.left e i new).0));
         }
 
     -- rows at the limit, and e below the highest
@@ -234,15 +195,14 @@ module _ (limit size capacity : ℕ) (fits : limit ≤ capacity) (fs : List Foun
 
       passed : (f : ℕ) → (f ≡ hi → ⊥) → Out f (exponents others) → Out f (exponents h.rows)
       passed f n o =
-          untrue (has f (exponents h.rows))
-          (λ i. clash (has f (exponents others)) (rw kept (del-keep f hi (exponents h.rows) n i)) o)
+          out_of f (exponents h.rows) (exponents others) (λ i. rw kept (del-keep f hi (exponents h.rows) n i)) o
 
       full-left : (f : ℕ) → In f (found_exponents fs) → Out f (exponents others)
           → (suc (length others) ≡ limit) × ((k : ℕ) → In k (exponents others) → k < f) × (e < f)
       full-left f i o =
-          same_or f hi
-          (λ t. (count, λ k j. omega (arith, less k j), omega arith))
-          (λ n. let was = (inv.left f i (passed f n o)).1 in (count, λ k j. was k (sub k j), omega (arith, was hi (top l pos))))
+          by-test (eqb f hi)
+          (λ t. let top_is = eqb-true f hi t in (count, λ k j. omega (arith, less k j), omega arith))
+          (λ t. let was = (inv.left f i (passed f (eqb-false f hi t) o)).1 in (count, λ k j. was k (sub k j), omega (arith, was hi (top l pos))))
 
       full : Room limit size capacity fs e others h.store
       full =
@@ -255,8 +215,8 @@ module _ (limit size capacity : ℕ) (fits : limit ≤ capacity) (fs : List Foun
             left = full-left;
             first = without_all (λ r. slot_data size h.store r.slot ≡ first_data r.exponent fs) hi h.rows inv.first;
             long = inv.long;
-            new = untrue (has e (exponents others)) (λ i. clash (has e (exponents h.rows)) (sub e i) new);
-            unseen = untrue (has e (found_exponents fs)) (λ i. omega (arith, (inv.left e i new).1 hi (top l pos)));
+            new = out_of e (exponents others) (exponents h.rows) (sub e) new;
+            unseen = false_from_ne_true (has e (found_exponents fs)) (λ i. omega (arith, (inv.left e i new).1 hi (top l pos)));
           }
 
   want-room : (e : ℕ) → unwanted limit h.rows e ≡ false → Room limit size capacity fs e (room limit h.rows) h.store
@@ -285,9 +245,9 @@ module _ (limit size capacity : ℕ) (fits : limit ≤ capacity) (fs : List Foun
         apart = inv.apart;
         below = inv.below;
         few = inv.few;
-        found = λ e i. rw found-last (in_append_left e (found_exponents fs) (f.exponent ∷ []) (inv.found e i));
+        found = λ e i. rw map-append (in_append_left e (found_exponents fs) (f.exponent ∷ []) (inv.found e i));
         left = λ e i o.
-            in-last e (found_exponents fs) f.exponent (rw found-last at i) (λ t. inv.left e t o)
+            in-last e (found_exponents fs) f.exponent (rw map-append at i) (λ t. inv.left e t o)
             (λ t. rw t (spurned f.exponent w (rw t at o)));
         first =
             all_in (λ r. slot_data size h.store r.slot ≡ first_data r.exponent fs)
@@ -313,21 +273,20 @@ module _ (limit size capacity : ℕ) (fits : limit ≤ capacity) (fs : List Foun
   arrived-left : (g : ℕ) → In g (found_exponents (fs ++ (f ∷ []))) → Out g (exponents (rows ++ (new_row ∷ [])))
       → (length (rows ++ (new_row ∷ [])) ≡ limit) × ((e : ℕ) → In e (exponents (rows ++ (new_row ∷ []))) → e < g)
   arrived-left g i o =
-      in-last g (found_exponents fs) f.exponent (rw found-last at i)
+      in-last g (found_exponents fs) f.exponent (rw map-append at i)
       (λ t.
       let was =
       at.left g t
-      (untrue (has g (exponents rows))
-      (λ u. clash (has g (exponents (rows ++ (new_row ∷ [])))) (rw exponents-last (in_append_left g (exponents rows) (f.exponent ∷ []) u)) o))
+      (out_of g (exponents rows) (exponents (rows ++ (new_row ∷ []))) (λ u. rw map-append (in_append_left g (exponents rows) (f.exponent ∷ []) u)) o)
       in (
         omega (arith, length-append rows (new_row ∷ []), was.0),
-        λ k j. in-last k (exponents rows) f.exponent (rw exponents-last at j) (was.1 k) (λ u. omega (arith, was.2)),
+        λ k j. in-last k (exponents rows) f.exponent (rw map-append at j) (was.1 k) (λ u. omega (arith, was.2)),
       ))
       (λ t.
-      clash (has g (exponents (rows ++ (new_row ∷ []))))
-      (rw (exponents-last, t) (in_append_right f.exponent (exponents rows) (f.exponent ∷ []) (in_head f.exponent []))) o)
+      absurd (both_ways (has g (exponents (rows ++ (new_row ∷ [])))) o
+      (rw (map-append, t) (in_append_right f.exponent (exponents rows) (f.exponent ∷ []) (in_head f.exponent [])))))
 
-  arrived-first : All (λ r. slot_data size (paste store (free rows * size) f.bytes size) r.slot ≡ first_data r.exponent (fs ++ (f ∷ []))) (rows ++ (new_row ∷ []))
+  arrived-first : AllByRecursion (λ r. slot_data size (paste store (free rows * size) f.bytes size) r.slot ≡ first_data r.exponent (fs ++ (f ∷ []))) (rows ++ (new_row ∷ []))
   arrived-first =
       all_append (λ r. slot_data size (paste store (free rows * size) f.bytes size) r.slot ≡ first_data r.exponent (fs ++ (f ∷ []))) rows (new_row ∷ [])
       (all_in (λ r. slot_data size store r.slot ≡ first_data r.exponent fs)
@@ -340,14 +299,14 @@ module _ (limit size capacity : ℕ) (fits : limit ≤ capacity) (fs : List Foun
   arrived : Inv limit size capacity (fs ++ (f ∷ [])) (record { rows = rows ++ (new_row ∷ []); store = paste store (free rows * size) f.bytes size })
   arrived =
       record {
-        once = rw exponents-last (repeats-last (exponents rows) f.exponent at.once at.new);
-        apart = rw slots-last (repeats-last (slots rows) (free rows) at.apart slot-out);
+        once = rw map-append (repeats-last (exponents rows) f.exponent at.once at.new);
+        apart = rw map-append (repeats-last (slots rows) (free rows) at.apart slot-out);
         below = all_append (λ r. r.slot < capacity) rows (new_row ∷ []) at.below (slot-low, tt);
         few = omega (arith, length-append rows (new_row ∷ []), at.few);
         found = λ e i.
-            in-last e (exponents rows) f.exponent (rw exponents-last at i)
-            (λ t. rw found-last (in_append_left e (found_exponents fs) (f.exponent ∷ []) (at.found e t)))
-            (λ t. rw (found-last, t) (in_append_right f.exponent (found_exponents fs) (f.exponent ∷ []) (in_head f.exponent [])));
+            in-last e (exponents rows) f.exponent (rw map-append at i)
+            (λ t. rw map-append (in_append_left e (found_exponents fs) (f.exponent ∷ []) (at.found e t)))
+            (λ t. rw (map-append, t) (in_append_right f.exponent (found_exponents fs) (f.exponent ∷ []) (in_head f.exponent [])));
         left = arrived-left;
         first = arrived-first;
         long = rw (slot-length size capacity (free rows) f.bytes store sized slot-low at.long) at.long;
@@ -365,7 +324,7 @@ inv-take_in a capacity fs f h fits sized inv =
     (want-room a.limit a.size capacity fits fs h inv f.exponent w)))
 
 -- all good packets
-pub inv-take_in_all : (a : Ask) (capacity : ℕ) (fs gs : List Found) (h : Held) → a.limit ≤ capacity → All (λ f. length f.bytes ≡ a.size) gs
+pub inv-take_in_all : (a : Ask) (capacity : ℕ) (fs gs : List Found) (h : Held) → a.limit ≤ capacity → AllByRecursion (λ f. length f.bytes ≡ a.size) gs
     → Inv a.limit a.size capacity fs h → Inv a.limit a.size capacity (fs ++ gs) (take_in_all a gs h)
 unfolding take_in_all
 inv-take_in_all a capacity fs [] h fits sized inv = rw append-nil inv

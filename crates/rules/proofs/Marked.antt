@@ -1,6 +1,5 @@
--- The marked cases of document 01 hold of the rules, by computation. Assumes nothing.
-use mathlib.Core.List.{map}
-use mathlib.Core.Path.{◌≡◌, refl}
+-- The marked cases hold of the rules, by computation. Assumes nothing.
+use Rattle.std.proofs.Common.{◌≡◌, map, refl}
 use Rattle.format.specs.Bytes.{same, little}
 use Rattle.format.specs.Packet.{magic, recovery_type, usable_length}
 use Rattle.rules.specs.Rows.{has, highest, unwanted}

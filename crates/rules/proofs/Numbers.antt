@@ -1,21 +1,12 @@
 -- Lists of numbers as sets: membership, repeats, the highest, one taken out, and the first free number.
-use mathlib.Core.Bool.{true, false, cond, false≢true}
-use mathlib.Core.List.{List, [], ◌∷◌, ◌++◌}
-use mathlib.Core.Path.{◌≡◌, refl, sym, ap, ◌∙◌, subst}
-use Prim.Native.Nat.{ℕ, zero, suc, ◌+◌, ◌≤◌}
-use native.Mathlib.Omega.{arith}
-use native.Mathlib.Nat.{max-zero}
-use lib.Dec.{eqb, leb}
-use lib.ListN.{length}
-use borrow.Author.Tests.{eq-eqb, ne_eqb, eqb-true, eqb-false, leb-true, leb-false}
+use Rattle.std.proofs.Common.{◌≡◌, ℕ, zero, suc, ◌+◌, ◌≤◌, true, false, cond, eqb, leb, List, [], ◌∷◌, ◌++◌, length, add-one, ap, arith, eq-eqb, eqb-true, leb-false, leb-true, refl, subst, sym, ◌∙◌}
+use Rattle.std.proofs.Math.Nat.{max-zero}
+use Rattle.std.proofs.lemmas.Bool.{both_ways, eqb-false, false_from_ne_true, false≢true, or_from, or_left, or_parts, or_right}
+use Rattle.std.proofs.lemmas.List.FromFn.{length-range_with_len}
+use Rattle.std.specs.List.{range_with_len}
 use Rattle.rules.specs.Rows.{has, highest, free_from}
 use Rattle.rules.specs.Reader.{repeats}
-use Rattle.rules.proofs.Tests.{by-test, or_left, or_right, or_elim, or-both, or-false-left, or-false-right, clash, untrue}
-
--- P holds of each of the list
-abbrev pub All : {A : Type 0} → (A → Type 0) → List A → Type 0
-All P [] = Unit {0}
-All P (x ∷ xs) = P x × All P xs
+use Rattle.rules.proofs.Tests.{by-test, or_elim}
 
 -- x stands in the list, and x doesn't
 abbrev pub In : ℕ → List ℕ → Type 0
@@ -59,7 +50,11 @@ pub in-last : {P : Type 0} (x : ℕ) (xs : List ℕ) (y : ℕ) → In x (xs ++ (
 in-last x xs y h f g = in-append x xs (y ∷ []) h f (λ t. in-cons x y [] t g (λ u. in-nil x u))
 
 pub different : (x y : ℕ) (xs : List ℕ) → In x xs → Out y xs → x ≡ y → ⊥
-different x y xs h o e = clash (has y xs) (rw (← e) h) o
+different x y xs h o e = both_ways (has y xs) o (rw (← e) h)
+
+-- what ys has not, xs has not, if xs has it only where ys does
+pub out_of : (x : ℕ) (xs ys : List ℕ) → (In x xs → In x ys) → Out x ys → Out x xs
+out_of x xs ys f o = false_from_ne_true (has x xs) (λ t. both_ways (has x ys) o (f t))
 
 -- repeats
 pub repeats-nil : repeats [] ≡ false
@@ -68,25 +63,25 @@ repeats-nil = refl
 
 pub repeats-cons : (x : ℕ) (xs : List ℕ) → Out x xs → repeats xs ≡ false → repeats (x ∷ xs) ≡ false
 unfolding repeats
-repeats-cons x xs o r = or-both (has x xs) (repeats xs) o r
+repeats-cons x xs o r = or_from (has x xs) (repeats xs) o r
 
 pub repeats-head : (x : ℕ) (xs : List ℕ) → repeats (x ∷ xs) ≡ false → Out x xs
 unfolding repeats
-repeats-head x xs r = or-false-left (has x xs) (repeats xs) r
+repeats-head x xs r = (or_parts (has x xs) (repeats xs) r).0
 
 pub repeats-tail : (x : ℕ) (xs : List ℕ) → repeats (x ∷ xs) ≡ false → repeats xs ≡ false
 unfolding repeats
-repeats-tail x xs r = or-false-right (has x xs) (repeats xs) r
+repeats-tail x xs r = (or_parts (has x xs) (repeats xs) r).1
 
 pub repeats-last : (xs : List ℕ) (y : ℕ) → repeats xs ≡ false → Out y xs → repeats (xs ++ (y ∷ [])) ≡ false
 repeats-last [] y r o = repeats-cons y [] o repeats-nil
 repeats-last (x ∷ xs) y r o =
     repeats-cons x (xs ++ (y ∷ []))
-    (untrue (has x (xs ++ (y ∷ [])))
+    (false_from_ne_true (has x (xs ++ (y ∷ [])))
     (λ h. in-last x xs y h
-    (λ t. clash (has x xs) t (repeats-head x xs r))
-    (λ e. clash (has y (x ∷ xs)) (rw (← e) (in_head x xs)) o)))
-    (repeats-last xs y (repeats-tail x xs r) (untrue (has y xs) (λ t. clash (has y (x ∷ xs)) (in_tail y x xs t) o)))
+    (λ t. both_ways (has x xs) (repeats-head x xs r) t)
+    (λ e. both_ways (has y (x ∷ xs)) o (rw (← e) (in_head x xs)))))
+    (repeats-last xs y (repeats-tail x xs r) (out_of y xs (x ∷ xs) (in_tail y x xs) o))
 
 -- the highest
 pub le-highest : (x : ℕ) (xs : List ℕ) → In x xs → x ≤ highest xs
@@ -107,60 +102,50 @@ unfoldable pub del : ℕ → List ℕ → List ℕ
 del x [] = []
 del x (y ∷ ys) = cond (eqb y x) ys (y ∷ del x ys)
 
-pub del-hit : (x y : ℕ) (ys : List ℕ) → y ≡ x → del x (y ∷ ys) ≡ ys
-unfolding del
-del-hit x y ys e = rw (eq-eqb y x e)
-
-pub del-miss : (x y : ℕ) (ys : List ℕ) → (y ≡ x → ⊥) → del x (y ∷ ys) ≡ y ∷ del x ys
-unfolding del
-del-miss x y ys n = rw (ne_eqb y x n)
-
--- x is y or isn't
-pub same_or : {P : Type 0} (x y : ℕ) → (x ≡ y → P) → ((x ≡ y → ⊥) → P) → P
-same_or x y f g = by-test (eqb x y) (λ t. f (eqb-true x y t)) (λ t. g (eqb-false x y t))
-
 pub del-length : (x : ℕ) (ys : List ℕ) → In x ys → length ys ≡ suc (length (del x ys))
+unfolding del
 del-length x [] h = in-nil x h
 del-length x (y ∷ ys) h =
-    same_or y x
-    (λ e. rw (del-hit x y ys e))
-    (λ n. rw (del-miss x y ys n) (in-cons x y ys h (λ e. absurd (n (sym e))) (λ t. ap suc (del-length x ys t))))
+    by-test (eqb y x)
+    (λ t. rw t)
+    (λ t. rw t (in-cons x y ys h (λ e. absurd (eqb-false y x t (sym e))) (λ u. ap suc (del-length x ys u))))
 
 pub del-in : (z x : ℕ) (ys : List ℕ) → In z (del x ys) → In z ys
 unfolding del
 del-in z x [] h = in-nil z h
 del-in z x (y ∷ ys) h =
-    same_or y x
-    (λ e. in_tail z y ys (rw (del-hit x y ys e) at h))
-    (λ n. in-cons z y (del x ys) (rw (del-miss x y ys n) at h) (λ e. rw e (in_head y ys)) (λ t. in_tail z y ys (del-in z x ys t)))
+    by-test (eqb y x)
+    (λ t. in_tail z y ys (rw t at h))
+    (λ t. in-cons z y (del x ys) (rw t at h) (λ e. rw e (in_head y ys)) (λ u. in_tail z y ys (del-in z x ys u)))
 
 pub del-keep : (z x : ℕ) (ys : List ℕ) → (z ≡ x → ⊥) → In z ys → In z (del x ys)
+unfolding del
 del-keep z x [] d h = in-nil z h
 del-keep z x (y ∷ ys) d h =
-    same_or y x
-    (λ e. rw (del-hit x y ys e) (in-cons z y ys h (λ f. absurd (d (f ∙ e))) (λ t. t)))
-    (λ n. rw (del-miss x y ys n) (in-cons z y ys h (λ f. rw f (in_head y (del x ys))) (λ t. in_tail z y (del x ys) (del-keep z x ys d t))))
+    by-test (eqb y x)
+    (λ t. rw t (in-cons z y ys h (λ e. absurd (d (e ∙ eqb-true y x t))) (λ u. u)))
+    (λ t. rw t (in-cons z y ys h (λ e. rw e (in_head y (del x ys))) (λ u. in_tail z y (del x ys) (del-keep z x ys d u))))
 
 pub del-repeats : (x : ℕ) (ys : List ℕ) → repeats ys ≡ false → repeats (del x ys) ≡ false
 unfolding del
 del-repeats x [] r = r
 del-repeats x (y ∷ ys) r =
-    same_or y x
-    (λ e. rw (del-hit x y ys e) (repeats-tail y ys r))
-    (λ n. rw (del-miss x y ys n)
+    by-test (eqb y x)
+    (λ t. rw t (repeats-tail y ys r))
+    (λ t. rw t
     (repeats-cons y (del x ys)
-    (untrue (has y (del x ys)) (λ t. clash (has y ys) (del-in y x ys t) (repeats-head y ys r)))
+    (out_of y (del x ys) ys (del-in y x ys) (repeats-head y ys r))
     (del-repeats x ys (repeats-tail y ys r))))
 
 pub del-gone : (x : ℕ) (ys : List ℕ) → repeats ys ≡ false → Out x (del x ys)
 unfolding del
-del-gone x [] r = untrue (has x []) (λ t. in-nil x t)
+del-gone x [] r = false_from_ne_true (has x []) (λ t. in-nil x t)
 del-gone x (y ∷ ys) r =
-    same_or y x
-    (λ e. rw (del-hit x y ys e) (rw e at (repeats-head y ys r)))
-    (λ n. rw (del-miss x y ys n)
-    (untrue (has x (y ∷ del x ys))
-    (λ h. in-cons x y (del x ys) h (λ e. n (sym e)) (λ t. clash (has x (del x ys)) t (del-gone x ys (repeats-tail y ys r))))))
+    by-test (eqb y x)
+    (λ t. rw t (rw (eqb-true y x t) at (repeats-head y ys r)))
+    (λ t. rw t
+    (false_from_ne_true (has x (y ∷ del x ys))
+    (λ h. in-cons x y (del x ys) h (λ e. eqb-false y x t (sym e)) (both_ways (has x (del x ys)) (del-gone x ys (repeats-tail y ys r))))))
 
 -- numbers without repeats, all of which stand in a second list, are no more than that has
 pub no_more : (xs ys : List ℕ) → repeats xs ≡ false → ((x : ℕ) → In x xs → In x ys) → length xs ≤ length ys
@@ -173,25 +158,16 @@ no_more (x ∷ xs) ys r h =
     omega (arith, del-length x ys (h x (in_head x xs)))
 
 -- the first free number
-run : ℕ → ℕ → List ℕ
-run s zero = []
-run s (suc n) = s ∷ run (suc s) n
+range-from : (x s n : ℕ) → In x (range_with_len s n) → s ≤ x
+range-from x s zero h = in-nil x h
+range-from x s (suc n) h =
+    in-cons x s (range_with_len (s + 1) n) h (λ e. omega arith) (λ t. omega (arith, range-from x (s + 1) n t))
 
-run_length : (s n : ℕ) → length (run s n) ≡ n
-unfolding run
-run_length s zero = refl
-run_length s (suc n) = ap suc (run_length (suc s) n)
-
-run-from : (x s n : ℕ) → In x (run s n) → s ≤ x
-unfolding run
-run-from x s zero h = in-nil x h
-run-from x s (suc n) h = in-cons x s (run (suc s) n) h (λ e. omega arith) (λ t. omega (arith, run-from x (suc s) n t))
-
-run-repeats : (s n : ℕ) → repeats (run s n) ≡ false
-unfolding run
-run-repeats s zero = repeats-nil
-run-repeats s (suc n) =
-    repeats-cons s (run (suc s) n) (untrue (has s (run (suc s) n)) (λ t. omega (arith, run-from s (suc s) n t))) (run-repeats (suc s) n)
+range-repeats : (s n : ℕ) → repeats (range_with_len s n) ≡ false
+range-repeats s zero = repeats-nil
+range-repeats s (suc n) =
+    repeats-cons s (range_with_len (s + 1) n)
+    (false_from_ne_true (has s (range_with_len (s + 1) n)) (λ t. omega (arith, range-from s (s + 1) n t))) (range-repeats (s + 1) n)
 
 pub free-le : (n s : ℕ) (xs : List ℕ) → free_from n s xs ≤ s + n
 unfolding free_from
@@ -199,19 +175,19 @@ free-le zero s xs = omega arith
 free-le (suc n) s xs =
     by-test (has s xs) (λ t. rw t (omega (arith, free-le n (suc s) xs))) (λ t. rw t (omega arith))
 
-free-full : (n s : ℕ) (xs : List ℕ) → In (free_from n s xs) xs → (x : ℕ) → In x (run s (suc n)) → In x xs
-unfolding free_from run
+free-full : (n s : ℕ) (xs : List ℕ) → In (free_from n s xs) xs → (x : ℕ) → In x (range_with_len s (suc n)) → In x xs
+unfolding free_from
 free-full zero s xs h x i = in-cons x s [] i (λ e. rw e h) (λ t. in-nil x t)
 free-full (suc n) s xs h x i =
     by-test (has s xs)
-    (λ t. in-cons x s (run (suc s) (suc n)) i (λ e. rw e t) (λ u. free-full n (suc s) xs (rw t at h) x u))
-    (λ t. clash (has s xs) (rw t at h) t)
+    (λ t. in-cons x s (range_with_len (s + 1) (suc n)) i (λ e. rw e t) (λ u. free-full n (suc s) xs (rw t at h) x (rw (add-one s) at u)))
+    (λ t. absurd (both_ways (has s xs) t (rw t at h)))
 
 pub free-out : (xs : List ℕ) → Out (free_from (length xs) 0 xs) xs
 free-out xs =
-    untrue (has (free_from (length xs) 0 xs) xs)
+    false_from_ne_true (has (free_from (length xs) 0 xs) xs)
     (λ t. omega (
       arith,
-      run_length 0 (suc (length xs)),
-      no_more (run 0 (suc (length xs))) xs (run-repeats 0 (suc (length xs))) (free-full (length xs) 0 xs t),
+      length-range_with_len 0 (suc (length xs)),
+      no_more (range_with_len 0 (suc (length xs))) xs (range-repeats 0 (suc (length xs))) (free-full (length xs) 0 xs t),
     ))

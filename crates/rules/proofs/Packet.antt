@@ -1,13 +1,7 @@
 -- What one whole packet does to the scan.
-use mathlib.Core.Bool.{Bool, true, false, cond}
-use mathlib.Core.List.{List, ◌++◌, append_assoc}
-use mathlib.Core.Path.{◌≡◌, refl, sym, ap, ap₂, ◌∙◌}
-use Prim.Native.Nat.{ℕ, ◌+◌, ◌-◌, ◌%◌, ◌≤◌}
-use native.Mathlib.Omega.{arith}
-use lib.Dec.{eqb, ltb, leb}
-use lib.ListN.{length, drop, length-append, take-append-drop}
-use lib.Seq.{take-append-le}
-use borrow.Author.Tests.{le-ltb, ltb-false, le-leb, eq-eqb}
+use Rattle.std.proofs.Common.{◌≡◌, ℕ, ◌+◌, ◌-◌, ◌%◌, ◌≤◌, Bool, true, false, cond, eqb, ltb, leb, List, ◌++◌, length, drop, ap, append_assoc, ap₂, arith, eq-eqb, le-leb, le-ltb, length-append, ltb-false, refl, sym, take-append-drop, ◌∙◌}
+use Rattle.std.proofs.lemmas.Bool.{and_from}
+use Rattle.std.proofs.lemmas.List.{take-append-le}
 use Rattle.md5_digest.specs.Rfc1321.{md5}
 use Rattle.format.specs.Bytes.{part, same, little}
 use Rattle.format.specs.Packet.{magic, magic_of, length_of, usable_length}
@@ -15,7 +9,7 @@ use Rattle.rules.specs.Rows.{unwanted}
 use Rattle.rules.specs.Scan.{Ask, State, go, exponent_of, seen_one, corrupt_one, agree}
 use Rattle.rules.specs.Scan.{header, past, ours, digest_right, hashed, long_packet, packet, step}
 use Rattle.rules.specs.Good.{Whole}
-use Rattle.rules.proofs.Tests.{by-test, and_both}
+use Rattle.rules.proofs.Tests.{by-test}
 use Rattle.rules.proofs.Runs.{agree-front, part-append, eq-same}
 use Rattle.rules.proofs.Steps.{step-packet}
 
@@ -48,12 +42,12 @@ module _ (p q : List ℕ) (w : Whole p) where
 
   usable : usable_length (length p) ≡ true
   unfolding usable_length
-  usable = and_both (leb 64 (length p)) (eqb (length p % 4) 0) (le-leb 64 (length p) w.long) (eq-eqb _ _ w.fours)
+  usable = and_from (leb 64 (length p)) (eqb (length p % 4) 0) (le-leb 64 (length p) w.long) (eq-eqb _ _ w.fours)
 
   pub header_at : header (p ++ q) ≡ true
   unfolding header
   header_at =
-      and_both (same (magic_of (p ++ q)) magic) (usable_length (length_of (p ++ q)))
+      and_from (same (magic_of (p ++ q)) magic) (usable_length (length_of (p ++ q)))
       (ap (λ (m : List ℕ). same m magic) (take-append-le 8 p q (omega (arith, w.long)) ∙ w.starts) ∙ eq-same magic)
       (ap usable_length length_at ∙ usable)
 

@@ -1,13 +1,7 @@
 -- The scan as a loop sees it: where a step stops, the scan ends; where it goes on, the scan goes on behind the bytes passed over, at least one and
 -- no more than there are. With these a loop's invariant is that the scan from its position is the scan of the whole.
-use mathlib.Core.Bool.{Bool, true, false, cond}
-use mathlib.Core.List.{List, [], ◌∷◌}
-use mathlib.Core.Path.{◌≡◌, refl, ap, ◌∙◌, subst}
-use Prim.Native.Nat.{ℕ, zero, suc, ◌+◌, ◌-◌, ◌≤◌, ◌<◌}
-use native.Mathlib.Omega.{arith}
-use lib.Dec.{ltb, leb}
-use lib.ListN.{length, drop, length-take, length-drop}
-use borrow.Author.Tests.{le-ltb, lt-ltb, ltb-false, leb-true}
+use Rattle.std.proofs.Common.{◌≡◌, ℕ, zero, suc, ◌+◌, ◌-◌, ◌<◌, ◌≤◌, true, false, ltb, leb, List, [], ◌∷◌, length, drop, ap, arith, le-ltb, leb-true, length-drop, length-take, lt-ltb, ltb-false, refl, subst, ◌∙◌}
+use Rattle.std.proofs.lemmas.Bool.{and_parts, cond_both}
 use Rattle.format.specs.Bytes.{part, same}
 use Rattle.format.specs.Packet.{magic, magic_of, length_of, usable_length}
 use Rattle.types.specs.declared.VolumeEnd.{VolumeEnd}
@@ -15,7 +9,7 @@ use Rattle.types.specs.declared.VolumeEnd.TheVariants.{Complete}
 use Rattle.rules.specs.Rows.{unwanted}
 use Rattle.rules.specs.Scan.{Ask, State, Step, stop, go, exponent_of, seen_one, corrupt_one, hashed, agree, tail_end, header, stray, resync}
 use Rattle.rules.specs.Scan.{past, ours, long_packet, packet, step, follow, scan}
-use Rattle.rules.proofs.Tests.{by-test, and_left, and_right}
+use Rattle.rules.proofs.Tests.{by-test}
 
 -- ---- The scan at a position
 
@@ -77,11 +71,6 @@ abbrev Moves : List ℕ → Step → Type 0
 Moves bs (stop e s) = Unit {0}
 Moves bs (go n s) = (0 < n) × (n ≤ length bs)
 
-moves-cond : (bs : List ℕ) (b : Bool) (x y : Step) → (b ≡ true → Moves bs x) → (b ≡ false → Moves bs y)
-    → Moves bs (cond b x y)
-moves-cond bs true x y f g = f refl
-moves-cond bs false x y f g = g refl
-
 stray-most : (xs : List ℕ) → stray xs ≤ length xs
 unfolding stray
 stray-most [] = omega arith
@@ -99,22 +88,22 @@ pub header-long : (bs : List ℕ) → header bs ≡ true → 64 ≤ length_of bs
 unfolding header usable_length
 header-long bs h =
     leb-true 64 (length_of bs)
-    (and_left (leb 64 (length_of bs)) _ (and_right (same (magic_of bs) magic) (usable_length (length_of bs)) h))
+    (and_parts (leb 64 (length_of bs)) _ (and_parts (same (magic_of bs) magic) (usable_length (length_of bs)) h).1).0
 
 module _ (a : Ask) (bs : List ℕ) (s : State) where
   moves-past : (cut whole : State) → 0 < length_of bs → Moves bs (past bs cut whole)
   unfolding past
   moves-past cut whole p =
-      moves-cond bs (ltb (length bs) (length_of bs)) _ _ (λ _. tt) (λ u. (p, ltb-false (length bs) (length_of bs) u))
+      cond_both (ltb (length bs) (length_of bs)) _ _ (Moves bs) (λ _. tt) (λ u. (p, ltb-false (length bs) (length_of bs) u))
 
   moves-packet : 0 < length_of bs → Moves bs (packet a bs s)
   unfolding packet long_packet
   moves-packet p =
-      moves-cond bs (ours a.set bs) _ _
-      (λ _. moves-cond bs (ltb (length_of bs - 64) (4 + a.size)) _ _
+      cond_both (ours a.set bs) _ _ (Moves bs)
+      (λ _. cond_both (ltb (length_of bs - 64) (4 + a.size)) _ _ (Moves bs)
       (λ _. moves-past (corrupt_one s) (corrupt_one s) p)
-      (λ _. moves-cond bs (ltb (length bs) 68) _ _ (λ _. tt)
-      (λ _. moves-cond bs (unwanted a.limit s.rows (exponent_of bs)) _ _
+      (λ _. cond_both (ltb (length bs) 68) _ _ (Moves bs) (λ _. tt)
+      (λ _. cond_both (unwanted a.limit s.rows (exponent_of bs)) _ _ (Moves bs)
       (λ _. moves-past (seen_one s) (seen_one s) p)
       (λ _. moves-past s (hashed a bs s) p))))
       (λ _. moves-past s s p)
@@ -122,8 +111,8 @@ module _ (a : Ask) (bs : List ℕ) (s : State) where
   moves-step : Moves bs (step a bs s)
   unfolding step
   moves-step =
-      moves-cond bs (ltb (length bs) 64) _ _ (λ _. tt)
-      (λ l. moves-cond bs (header bs) _ _
+      cond_both (ltb (length bs) 64) _ _ (Moves bs) (λ _. tt)
+      (λ l. cond_both (header bs) _ _ (Moves bs)
       (λ h. moves-packet (omega (arith, header-long bs h)))
       (λ _.
       let m = resync-moves bs (ltb-false (length bs) 64 l) in

@@ -1,13 +1,7 @@
 -- Slots of the store: what a new row's data writes, and what it leaves.
-use mathlib.Core.List.{List, ◌++◌, append_assoc}
-use mathlib.Core.Path.{◌≡◌, sym, ap, ◌∙◌}
-use Prim.Native.Nat.{ℕ, suc, ◌+◌, ◌-◌, ◌*◌, ◌≤◌, ◌<◌}
-use native.Mathlib.Omega.{arith}
-use native.Mathlib.Nat.{mul-le-mul_right}
-use lib.Dec.{ltb}
-use lib.ListN.{length, take, drop, take-append-drop}
-use lib.Seq.{paste, length-paste, drop-paste, drop_at, take_at, take_all, drop-drop, length-take-le}
-use borrow.Author.Tests.{ltb-true, ltb-false}
+use Rattle.std.proofs.Common.{◌≡◌, ℕ, suc, ◌+◌, ◌-◌, ◌*◌, ◌<◌, ◌≤◌, ltb, List, ◌++◌, length, take, drop, ap, append_assoc, arith, drop-drop, drop_at, length-take-le, ltb-false, ltb-true, mul-le-mul_right, sym, take-append-drop, take_all, take_at, ◌∙◌}
+use Rattle.std.proofs.Math.Seq.{paste}
+use Rattle.std.proofs.lemmas.List.Edits.{drop-paste, length-paste}
 use Rattle.format.specs.Bytes.{part}
 use Rattle.rules.specs.Rows.{slot_data}
 use Rattle.rules.proofs.Tests.{by-test}

@@ -1,12 +1,7 @@
 -- Where the scan goes on in junk: to the first place of the window of 64 bytes from which on it equals the start of the magic, else past the window.
-use mathlib.Core.Bool.{Bool, true, false, cond}
-use mathlib.Core.List.{List, [], ◌∷◌, ◌++◌}
-use mathlib.Core.Path.{◌≡◌, sym, ap, ◌∙◌}
-use Prim.Native.Nat.{ℕ, zero, suc, ◌+◌, ◌-◌, ◌≤◌, ◌<◌}
-use native.Mathlib.Omega.{arith}
-use native.Mathlib.Nat.{zero-sub, sub-zero}
-use lib.ListN.{length, take, drop, length-take, length-drop}
-use lib.Seq.{drop-drop, drop-nil, take-nil}
+use Rattle.std.proofs.Common.{◌≡◌, ℕ, zero, suc, ◌+◌, ◌-◌, ◌<◌, ◌≤◌, true, false, List, [], ◌∷◌, ◌++◌, length, take, drop, ap, arith, drop-drop, length-drop, length-take, sym, ◌∙◌}
+use Rattle.std.proofs.lemmas.Bool.{cond_both}
+use Rattle.std.proofs.lemmas.Slice.{between_is}
 use Rattle.format.specs.Bytes.{part}
 use Rattle.format.specs.Packet.{magic}
 use Rattle.rules.specs.Scan.{agree, stray, resync}
@@ -28,19 +23,13 @@ stray-yes [] l = absurd (omega arith)
 stray-yes (x ∷ xs) l =
     by-test (agree (x ∷ xs) magic) (λ t. rw t t) (λ t. rw t (stray-yes xs (omega (arith, rw t at l))))
 
-drop-take : (i n : ℕ) (xs : List ℕ) → drop i (take n xs) ≡ take (n - i) (drop i xs)
-drop-take zero n xs = ap (λ (k : ℕ). take k xs) (sym (sub-zero n))
-drop-take (suc i) zero xs = drop-nil (suc i) ∙ ap (λ (k : ℕ). take k (drop (suc i) xs)) (sym (zero-sub (suc i)))
-drop-take (suc i) (suc n) [] = sym (take-nil (suc n - suc i))
-drop-take (suc i) (suc n) (x ∷ xs) = drop-take i n xs ∙ ap (λ (k : ℕ). take k (drop i xs)) {x = n - i} {y = suc n - suc i} (omega arith)
-
 -- the bytes from q to p + 63
 abbrev pub window : ℕ → List ℕ → List ℕ
 window q bs = part q (64 - q) bs
 
 window-is : (i : ℕ) (bs : List ℕ) → drop i (part 1 63 bs) ≡ window (1 + i) bs
 window-is i bs =
-    drop-take i 63 (drop 1 bs)
+    sym (between_is (drop 1 bs) i 63)
     ∙ ap (λ (k : ℕ). take k (drop i (drop 1 bs))) {x = 63 - i} {y = 64 - (1 + i)} (omega arith)
     ∙ ap (take (64 - (1 + i))) (drop-drop i 1 bs)
 
@@ -59,17 +48,14 @@ resync-yes bs l h =
 
 -- ---- Where what follows junk j is like the magic, no step leads past its start
 
-cond-le : (b : Bool) (m n : ℕ) → m ≤ n → cond b 0 (suc m) ≤ suc n
-cond-le true m n h = omega arith
-cond-le false m n h = omega arith
-
 pub stray-le : (j rest : List ℕ) (n : ℕ) → agree rest magic ≡ true → stray (take n (j ++ rest)) ≤ length j
 unfolding stray
 stray-le [] rest zero h = omega arith
 stray-le [] [] (suc n) h = omega arith
 stray-le [] (x ∷ rest) (suc n) h = rw (agree-take (suc n) (x ∷ rest) magic h) (omega arith)
 stray-le (x ∷ j) rest zero h = omega arith
-stray-le (x ∷ j) rest (suc n) h = cond-le (agree (x ∷ take n (j ++ rest)) magic) _ _ (stray-le j rest n h)
+stray-le (x ∷ j) rest (suc n) h =
+    cond_both (agree (x ∷ take n (j ++ rest)) magic) _ _ (λ k. k ≤ length (x ∷ j)) (λ _. omega arith) (λ _. omega (arith, stray-le j rest n h))
 
 pub resync-at : (x : ℕ) (xs : List ℕ) → resync (x ∷ xs) - 1 ≡ stray (take 63 xs)
 unfolding resync

@@ -1,8 +1,6 @@
--- Budgets. Document 01, "Volume scan", last rule.
-use Rattle.std.specs.Prelude.{cond, List, [], ◌∷◌, ℕ, zero, suc, ◌-◌, ◌/◌, ◌^◌, min, eqb, length}
+-- Budgets: how many rows a reader may hold, by a bound on rows and one on bytes, and what setting one does.
+use Rattle.std.specs.Prelude.{cond, List, [], ◌∷◌, ℕ, zero, suc, ◌-◌, ◌/◌, ◌^◌, min, eqb, length, Option, Some, None}
 use Rattle.types.specs.declared.RowRecord.{RowRecord}
-use Rattle.types.specs.declared.Bound.{Bound}
-use Rattle.types.specs.declared.Bound.TheVariants.{Absent, AtMost}
 use Rattle.types.specs.declared.RecoveryBudget.{RecoveryBudget}
 use Rattle.types.specs.declared.Refusal.TheVariants.{BadState}
 use Rattle.rules.specs.Rows.{exponents, highest, without}
@@ -12,14 +10,14 @@ abbrev pub no_bound : ℕ
 no_bound = 2 ^ 64 - 1
 
 -- max rows; an absent one sets no bound
-unfoldable pub rows_bound : Bound → ℕ
-rows_bound Absent = no_bound
-rows_bound (AtMost n) = n
+unfoldable pub rows_bound : Option ℕ → ℕ
+rows_bound None = no_bound
+rows_bound (Some n) = n
 
 -- max bytes divided by slice size rounded down; an absent one or a slice size of 0 sets no bound
-unfoldable pub bytes_bound : ℕ → Bound → ℕ
-bytes_bound size Absent = no_bound
-bytes_bound size (AtMost n) = cond (eqb size 0) no_bound (n / size)
+unfoldable pub bytes_bound : ℕ → Option ℕ → ℕ
+bytes_bound size None = no_bound
+bytes_bound size (Some n) = cond (eqb size 0) no_bound (n / size)
 
 -- the smaller of the two
 unfoldable pub row_limit : RecoveryBudget → ℕ → ℕ

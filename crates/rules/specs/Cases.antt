@@ -1,13 +1,10 @@
--- Document 01, "Small volumes, slice size 4 (marked cases)", as one list, with the window's own cases and the budgets behind it.
-use Rattle.std.specs.Prelude.{List, [], ◌∷◌, ◌++◌, ℕ, replicate, take}
+-- The marked cases, small volumes at slice size 4, V1 to V13, as one list, with the window's own cases and the budgets behind it.
+use Rattle.std.specs.Prelude.{List, [], ◌∷◌, ◌++◌, ℕ, replicate, take, Option, Some, None, Ok}
 use Rattle.format.specs.Packet.{magic, recovery_type}
-use Rattle.types.specs.declared.Bound.{Bound}
-use Rattle.types.specs.declared.Bound.TheVariants.{Absent, AtMost}
 use Rattle.types.specs.declared.RecoveryBudget.{RecoveryBudget}
 use Rattle.types.specs.declared.VolumeEnd.{VolumeEnd}
 use Rattle.types.specs.declared.VolumeEnd.TheVariants.{Complete, Truncated, CapReached}
 use Rattle.types.specs.declared.VolumeScan.{VolumeScan}
-use Rattle.types.specs.declared.VolumeAnswer.TheVariants.{Scanned}
 use Rattle.rules.specs.Reader.{default_cap}
 use Rattle.rules.specs.Volume.{VolumeRead, read_volume}
 use Rattle.rules.specs.Budget.{row_limit}
@@ -106,7 +103,7 @@ answered c =
 unfoldable pub expected : Case → VolumeRead
 expected c =
     record {
-      answer = Scanned c.result;
+      answer = Ok c.result;
       reader =
           record {
             set = our_set;
@@ -127,21 +124,21 @@ pub record BudgetCase : Type 0 where
   pub size : ℕ
   pub rows : ℕ
 
-abbrev pub budget : Bound → Bound → ℕ → ℕ → BudgetCase
+abbrev pub budget : Option ℕ → Option ℕ → ℕ → ℕ → BudgetCase
 budget rows bytes size limit = record { budget = record { max_rows = rows; max_bytes = bytes }; size = size; rows = limit }
 
 unfoldable pub budgets : List BudgetCase
 budgets =
     -- max bytes 1000, slice 300 gives 3 rows;
-    budget Absent (AtMost 1000) 300 3
+    budget None (Some 1000) 300 3
     -- with max rows 2, 2;
-    ∷ budget (AtMost 2) (AtMost 1000) 300 2
+    ∷ budget (Some 2) (Some 1000) 300 2
     -- max bytes 299 gives 0
-    ∷ budget Absent (AtMost 299) 300 0
+    ∷ budget None (Some 299) 300 0
     -- an absent one or a slice size of 0 sets no bound (2^64 - 1)
-    ∷ budget Absent Absent 300 18446744073709551615
-    ∷ budget Absent (AtMost 1000) 0 18446744073709551615
-    ∷ budget (AtMost 2) (AtMost 1000) 0 2
+    ∷ budget None None 300 18446744073709551615
+    ∷ budget None (Some 1000) 0 18446744073709551615
+    ∷ budget (Some 2) (Some 1000) 0 2
     ∷ []
 
 abbrev pub rows_of : BudgetCase → ℕ

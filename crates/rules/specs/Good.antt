@@ -1,4 +1,4 @@
--- Packets as demand 3 speaks of them: whole ones, good ones, and what these bring.
+-- Packets: whole ones, good ones, and what these bring.
 use Rattle.std.specs.Prelude.{Bool, cond, ◌&&◌, List, [], ◌∷◌, map, ◌≡◌, ℕ, ◌+◌, ◌-◌, ◌%◌, ◌≤◌, eqb, leb, length}
 use Rattle.format.specs.Packet.{magic, magic_of, length_of}
 use Rattle.rules.specs.Scan.{ours, exponent_of, row_of, digest_right}

@@ -1,9 +1,8 @@
--- Rows handed out: the data of one, and the records of all. Document 01, "Volume scan".
-use Rattle.std.specs.Prelude.{cond, List, [], ◌∷◌, ◌++◌, ℕ, zero, suc, ltb, length, drop}
+-- Rows handed out: the data of one, and the records of all.
+use Rattle.std.specs.Prelude.{cond, List, [], ◌∷◌, ◌++◌, ℕ, zero, suc, ltb, length, drop, Result, Ok, Err}
 use Rattle.types.specs.declared.RowRecord.{RowRecord}
+use Rattle.types.specs.declared.Refusal.{Refusal}
 use Rattle.types.specs.declared.Refusal.TheVariants.{BadState, ListShort}
-use Rattle.types.specs.declared.Answer.{Answer}
-use Rattle.types.specs.declared.Answer.TheVariants.{Done, Refused}
 use Rattle.rules.specs.Rows.{slot_data}
 use Rattle.rules.specs.Reader.{Reader, bad_state, store_short, list_short, any, first_of}
 
@@ -32,16 +31,16 @@ rising (r ∷ rs) = insert r (rising rs)
 
 -- what a listing says, and the places as they are left
 pub record Listed : Type 0 where
-  pub answer : Answer
+  pub answer : Result (Unit {0}) Refusal
   pub places : List RowRecord
 
 -- later places stay; refused, all do
-unfoldable pub fills : Answer → List RowRecord → List RowRecord → Listed
-fills Done rows places = record { answer = Done; places = rows ++ drop (length rows) places }
-fills (Refused why) rows places = record { answer = Refused why; places = places }
+unfoldable pub fills : Result (Unit {0}) Refusal → List RowRecord → List RowRecord → Listed
+fills (Ok _) rows places = record { answer = Ok tt; places = rows ++ drop (length rows) places }
+fills (Err why) rows places = record { answer = Err why; places = places }
 
 -- listing: 4, 11
-unfoldable pub listing_refusal : Reader → List RowRecord → Answer
+unfoldable pub listing_refusal : Reader → List RowRecord → Result (Unit {0}) Refusal
 listing_refusal r places = first_of ((bad_state r, BadState) ∷ (list_short r places, ListShort) ∷ [])
 
 unfoldable pub list_by_arrival : Reader → List RowRecord → Listed

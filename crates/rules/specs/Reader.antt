@@ -1,10 +1,8 @@
--- The reader: its state, what contradicts itself in one, the refusals of its calls, and the calls that only make or set it. Document 01, "Refusal numbers".
-use Rattle.std.specs.Prelude.{Bool, false, cond, ◌||◌, not, List, [], ◌∷◌, ℕ, ◌*◌, ◌^◌, ◌%◌, eqb, ltb, leb, length, replicate}
+-- The reader: its state, what contradicts itself in one, the refusals of its calls, each with its number, and the calls that only make or set it.
+use Rattle.std.specs.Prelude.{Bool, false, cond, ◌||◌, not, List, [], ◌∷◌, ℕ, ◌*◌, ◌^◌, ◌%◌, eqb, ltb, leb, length, replicate, Result, Ok, Err}
 use Rattle.types.specs.declared.RowRecord.{RowRecord}
 use Rattle.types.specs.declared.Refusal.{Refusal}
 use Rattle.types.specs.declared.Refusal.TheVariants.{BadSliceSize, BadCapacity, BadState}
-use Rattle.types.specs.declared.Answer.{Answer}
-use Rattle.types.specs.declared.Answer.TheVariants.{Done, Refused}
 use Rattle.rules.specs.Rows.{exponents, slots, has}
 
 pub record Reader : Type 0 where
@@ -76,21 +74,21 @@ list_short r places = ltb (length places) (length r.rows)
 -- ---- Refusals: their order
 
 -- the first that applies
-unfoldable pub first_of : List (Bool × Refusal) → Answer
-first_of [] = Done
-first_of (t ∷ ts) = cond t.0 (Refused t.1) (first_of ts)
+unfoldable pub first_of : List (Bool × Refusal) → Result (Unit {0}) Refusal
+first_of [] = Ok tt
+first_of (t ∷ ts) = cond t.0 (Err t.1) (first_of ts)
 
 -- ---- The calls that make or set a reader
 
 -- what such a call says, and the reader that it hands back
 pub record Left : Type 0 where
-  pub answer : Answer
+  pub answer : Result (Unit {0}) Refusal
   pub reader : Reader
 
 -- refused, the reader that it was given; else the new one
-unfoldable pub leaves : Answer → Reader → Reader → Left
-leaves Done old new = record { answer = Done; reader = new }
-leaves (Refused why) old new = record { answer = Refused why; reader = old }
+unfoldable pub leaves : Result (Unit {0}) Refusal → Reader → Reader → Left
+leaves (Ok _) old new = record { answer = Ok tt; reader = new }
+leaves (Err why) old new = record { answer = Err why; reader = old }
 
 -- the default cap
 abbrev pub default_cap : ℕ

@@ -1,4 +1,4 @@
--- The rows that a reader keeps, in the order of arrival, and the store that holds their data. Document 01, "Volume scan".
+-- The rows that a reader keeps, in the order of arrival, and the store that holds their data.
 use Rattle.std.specs.Prelude.{Bool, false, cond, ◌&&◌, ◌||◌, List, [], ◌∷◌, ◌++◌, map, ℕ, zero, suc, ◌*◌, max, eqb, leb, length}
 use Rattle.format.specs.Bytes.{part}
 use Rattle.types.specs.declared.RowRecord.{RowRecord}

@@ -1,4 +1,4 @@
--- The scan of one volume: document 01, "Volume scan", in its order. The scan stands before the bytes of V that are left (at position p); a step
+-- The scan of one volume, its tests in the order in which they are made. The scan stands before the bytes of V that are left (at position p); a step
 -- stops, or passes over some of them.
 use Rattle.std.specs.Prelude.{Bool, true, cond, ◌&&◌, List, [], ◌∷◌, ℕ, zero, suc, ◌+◌, ◌-◌, ◌*◌, eqb, ltb, length}
 use Rattle.std.proofs.Math.Seq.{paste}

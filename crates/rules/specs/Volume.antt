@@ -1,18 +1,15 @@
--- Reading a volume: what is scanned, what is reported, and what is left. Document 01, "Volume scan".
-use Rattle.std.specs.Prelude.{cond, List, [], ◌∷◌, ℕ, ◌+◌, min, ltb, length, take}
+-- Reading a volume: what is scanned, what is reported, and what is left.
+use Rattle.std.specs.Prelude.{cond, List, [], ◌∷◌, ℕ, ◌+◌, min, ltb, length, take, Result, Ok, Err}
+use Rattle.types.specs.declared.Refusal.{Refusal}
 use Rattle.types.specs.declared.Refusal.TheVariants.{StoreShort, BadState, CounterFull}
-use Rattle.types.specs.declared.Answer.{Answer}
-use Rattle.types.specs.declared.Answer.TheVariants as answer
 use Rattle.types.specs.declared.VolumeEnd.TheVariants.{CapReached}
 use Rattle.types.specs.declared.VolumeScan.{VolumeScan}
-use Rattle.types.specs.declared.VolumeAnswer.{VolumeAnswer}
-use Rattle.types.specs.declared.VolumeAnswer.TheVariants.{Scanned, Refused}
 use Rattle.rules.specs.Scan.{Ask, State, Ended, scan}
 use Rattle.rules.specs.Reader.{Reader, bad_state, counter_full, store_short, first_of}
 
 -- what a volume is answered, with the reader and the store as they are left
 pub record VolumeRead : Type 0 where
-  pub answer : VolumeAnswer
+  pub answer : Result VolumeScan Refusal
   pub reader : Reader
   pub store : List ℕ
 
@@ -52,17 +49,17 @@ reader_after r s =
 
 unfoldable pub accepted : Reader → List ℕ → Ended → VolumeRead
 accepted r volume e =
-    record { answer = Scanned (reported r.cap volume e); reader = reader_after r e.state; store = e.state.store }
+    record { answer = Ok (reported r.cap volume e); reader = reader_after r e.state; store = e.state.store }
 
 -- volume: 4, 5, 3
-unfoldable pub volume_refusal : Reader → List ℕ → Answer
+unfoldable pub volume_refusal : Reader → List ℕ → Result (Unit {0}) Refusal
 volume_refusal r store =
     first_of ((bad_state r, BadState) ∷ (counter_full r, CounterFull) ∷ (store_short r store, StoreShort) ∷ [])
 
 -- a refusal changes no state and no store byte
-unfoldable pub unless : Answer → Reader → List ℕ → VolumeRead → VolumeRead
-unless answer.Done r store read = read
-unless (answer.Refused why) r store read = record { answer = Refused why; reader = r; store = store }
+unfoldable pub unless : Result (Unit {0}) Refusal → Reader → List ℕ → VolumeRead → VolumeRead
+unless (Ok _) r store read = read
+unless (Err why) r store read = record { answer = Err why; reader = r; store = store }
 
 unfoldable pub read_volume : Reader → List ℕ → List ℕ → VolumeRead
 read_volume r store volume = unless (volume_refusal r store) r store (accepted r volume (scanned r store volume))

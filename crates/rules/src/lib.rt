@@ -1,2 +1,2 @@
-// The rules of document 01 as definitions, and their laws: no code.
+// The rules of the scan of recovery volumes as definitions, and their laws: no code.
 #![tactic(auto)]
