@@ -12,7 +12,8 @@ top = pathlib.Path(sys.argv[1] if len(sys.argv) > 1 else "crates")
 
 def functions(text):
     """name and tokens of each function, its names and numbers blanked"""
-    text = re.sub(r"//.*|^ *ghost .*|^ *(requires|ensures)\b.*", "", text, flags=re.M)
+    text = re.sub(r"//.*|^ *ghost .*", "", text, flags=re.M)
+    text = re.sub(r"^ *(requires|ensures)\b.*?(;?)$", r"\2", text, flags=re.M)
     for m in re.finditer(r"\bfn (\w+)", text):
         start = text.find("{", m.start())
         head, inner = text[m.start():start], 1
