@@ -15,6 +15,7 @@ use Rattle.crc32.specs.Table.{word_at}
 use Rattle.crc32.proofs.Linear.{steps-xor, steps-add, steps-out, steps_low}
 use Rattle.crc32.proofs.Lists.{firsts, take-firsts}
 use Rattle.std.proofs.Common.{fold}
+use Rattle.std.specs.Int.{w32, to_be_bytes}
 use Rattle.std.specs.Simd.{first_chunks}
 use Rattle.crc32.specs.Laws.{crc-append}
 
@@ -68,6 +69,21 @@ four-law w k x hp hq hr hs =
       shr-shr x w w,
       shr-shr x (w + w) w,
     )
+
+-- the bytes of a word, the highest first
+pub bytes-law : (k x : ℕ) (bs : List ℕ) {p q r s : ℕ} → x < 2 ^ 32 → bs ≡ to_be_bytes w32 x
+    → p ≡ steps (8 * (k + 1)) (get_or bs 0 0)
+    → q ≡ steps (8 * (k + 1 + 1)) (get_or bs 1 0)
+    → r ≡ steps (8 * (k + 2 + 1)) (get_or bs 2 0)
+    → s ≡ steps (8 * (k + 3 + 1)) (get_or bs 3 0)
+    → bit_xor (bit_xor (bit_xor p q) r) s ≡ steps (8 * (k + 4)) x
+bytes-law k x bs small eb hp hq hr hs =
+    let at : (i v : ℕ) → get_or (to_be_bytes w32 x) i 0 ≡ v → get_or bs i 0 ≡ v = λ i v e. ap (λ (l : List ℕ). get_or l i 0) eb ∙ e in
+    four-law 8 k x
+    (hp ∙ ap (steps (8 * (k + 1))) (at 0 _ (omega arith)))
+    (hq ∙ ap (steps (8 * (k + 1 + 1))) (at 1 _ (omega arith)))
+    (hr ∙ ap (steps (8 * (k + 2 + 1))) (at 2 _ (omega arith)))
+    (hs ∙ ap (steps (8 * (k + 3 + 1))) (at 3 _ (omega arith)))
 
 -- ---- words
 

@@ -20,10 +20,8 @@ fn four(k: usize, x: u32) -> u32
     requires { k ≤ 12 }
     ensures { result ≡ steps (8 * (k + 4)) x }
 {
-    entry(k, x >> 24)
-        ^ entry(k + 1, (x >> 16) % 256)
-        ^ entry(k + 2, (x >> 8) % 256)
-        ^ entry(k + 3, x % 256)
+    let [a, b, c, d] = x.to_be_bytes();
+    entry(k, a) ^ entry(k + 1, b) ^ entry(k + 2, c) ^ entry(k + 3, d)
 }
 
 // The register after the byte b.
@@ -31,7 +29,8 @@ fn byte(r: u32, b: u8) -> u32
     ensures { result ≡ steps 8 (bit_xor r b) }
 {
     let x = r ^ u32::from(b);
-    (x >> 8) ^ entry(0, x % 256)
+    let [low, _, _, _] = x.to_le_bytes();
+    (x >> 8) ^ entry(0, low)
 }
 
 // The register after the four bytes of s.

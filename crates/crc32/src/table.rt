@@ -3,12 +3,11 @@ ghost use Rattle.std.specs.Prelude.{◌≡◌, ◌+◌, ◌*◌, ◌<◌};
 ghost use Rattle.crc32.specs.Crc.{steps};
 
 // The register x after k + 1 bytes of zeros.
-pub(super) fn entry(k: usize, x: u32) -> u32
-    requires { (k < 16) × (x < 256) }
+pub(super) fn entry(k: usize, x: u8) -> u32
+    requires { k < 16 }
     ensures { result ≡ steps (8 * (k + 1)) x }
 {
-    // there is no `From<u32>` for `usize`: the check proves that nothing is lost
-    TABLE[k][x as usize]
+    TABLE[k][usize::from(x)]
 }
 
 // Entry x of row k is the register x after k + 1 bytes of zeros.
