@@ -1,9 +1,9 @@
 // MD5, RFC 1321: the digest of a message that comes whole or in parts.
 #![tactic(auto)]
 
-ghost use Rattle.std.specs.Prelude.{◌≡◌, ◌+◌, ◌≤◌, ◌++◌, length, take, fold};
+ghost use Rattle.std.specs.Prelude.{◌≡◌, ◌+◌, ◌%◌, ◌≤◌, ◌++◌, length, take, fold};
 ghost use Rattle.md5_digest.specs.Rfc1321.{block_of, length_bytes, run, output, md5};
-ghost use Rattle.md5_digest.specs.Pieces.{rest, fill, fresh, feed, finish_of};
+ghost use Rattle.md5_digest.specs.Pieces.{rest, fill, held, fresh, feed, finish_of};
 ghost use Rattle.md5_digest.specs.declared.Md5.{Md5 as Digest};
 
 use block::Sines;
@@ -87,22 +87,32 @@ impl Md5 {
         }
     }
 
+    // The bytes that are held back, those after the last whole block.
+    #[tactic(auto, unfolding(crate::specs::Pieces::held))]
+    fn held(&self) -> &[u8]
+        ensures bytes { result.now ≡ held self.now }
+        ensures len { length result.now ≡ self.now.fed % 64 }
+    {
+        // there is no `From<u64>` for `usize`: the check proves that nothing is lost
+        &self.tail[..(self.fed % 64) as usize]
+    }
+
     // The digest under way after the bytes of data. Whole blocks of data are read where they lie.
     pub fn update(self, data: &[u8]) -> Md5
         ensures { result ≡ feed self «data».now }
     {
-        // `as` here and in `finish`: there is no `From` between `u64` and `usize`, and the check proves that nothing is lost
-        let held = (self.fed % 64) as usize;
+        // nor a `From<usize>` for `u64`
         let fed = self.fed.wrapping_add(data.len() as u64);
-        if held == 0 {
+        let held = self.held();
+        if held.is_empty() {
             return taken(self.state, data, fed);
         }
-        let room = 64 - held;
+        let room = 64 - held.len();
         if data.len() < room {
-            let tail = lay(&self.tail[..held], data);
+            let tail = lay(held, data);
             return Md5 { tail, fed, ..self };
         }
-        let first = lay(&self.tail[..held], &data[..room]);
+        let first = lay(held, &data[..room]);
         let state = absorb(self.state, &[first], &Sines::new());
         taken(state, &data[room..], fed)
     }
@@ -111,11 +121,11 @@ impl Md5 {
     pub fn finish(self) -> [u8; 16]
         ensures { result ≡ finish_of self }
     {
-        let held = (self.fed % 64) as usize;
+        let held = self.held();
         let bit = [0x80u8];
-        let last = lay(&self.tail[..held], &bit);
+        let last = lay(held, &bit);
         let sines = Sines::new();
-        let fits = held < 56;
+        let fits = held.len() < 56;
         if fits {
             let block = with_length(last, self.fed);
             return output_of(absorb(self.state, &[block], &sines));
