@@ -31,7 +31,9 @@ pub struct Sines {
 }
 
 impl Sines {
-    pub fn new() -> Sines {
+    pub fn new() -> Sines
+        ensures { result.table ≡ sines }
+    {
         Sines { table: SINES }
     }
 

@@ -1,16 +1,8 @@
-use Rattle.std.proofs.Common.{◌≡◌, ℕ, ◌+◌, ◌*◌, ◌<◌, List, [], get_or, refl, sym, ap, ◌∙◌, arith}
-use Rattle.std.specs.Simd.{first_chunks}
-use Rattle.in_pieces.proofs.Chunks.{get_or-first_chunks}
+use Rattle.std.proofs.Common.{◌≡◌, ℕ, ◌+◌, ◌*◌, ◌<◌, List, get_or, refl, sym, ap, ◌∙◌, arith}
+use Rattle.in_pieces.proofs.Chunks.{word-of}
 use Rattle.md5_digest.specs.Rfc1321.{sines, shifts, mix_of, word_at}
 use Rattle.md5_digest.proofs.Operations.{shift-range, step-made, operation}
 use Rattle.md5_digest.proofs.block.operation.Goals as goal
-
-word-of : (s : List ℕ) (k i : ℕ) {ws : List (List ℕ)} {r : ℕ} → ws ≡ first_chunks 4 k s → i < k → r ≡ word_at (get_or ws i []) 0 → r ≡ word_at s (4 * i)
-word-of s k i e l er =
-    let at : (j : ℕ) → j < 4 → get_or (get_or (first_chunks 4 k s) i []) j 0 ≡ get_or s (i * 4 + j) 0 = λ j h. get_or-first_chunks 4 k s i j l h in
-    let first : i * 4 + 0 ≡ 4 * i = omega arith in
-    let four : i * 4 ≡ 4 * i = omega arith in
-    er ∙ rw (e, at 0 (omega arith), at 1 (omega arith), at 2 (omega arith), at 3 (omega arith), first, four)
 
 pub returns : goal.returns
 unfolding shifts
