@@ -27,3 +27,6 @@ pieces-update κs a x y e f p q = p ∙ sym q
 
 pub pieces-finish : Determined 0 Pieces.finish.Kinds.ps Pieces.finish.Kinds.r Pieces.finish.Reads.Learnt
 pieces-finish κs a x y e f p q = p ∙ sym q
+
+pub pieces-at_once : Determined 1 Pieces.at_once.Kinds.ps Pieces.at_once.Kinds.r Pieces.at_once.Reads.Learnt
+pieces-at_once κs a x y e f p q = p ∙ sym q

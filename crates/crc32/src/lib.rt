@@ -104,5 +104,5 @@ impl Crc32 {
 pub fn checksum(data: &[u8]) -> u32
     ensures { result ≡ crc32 «data».now }
 {
-    in_pieces::of::<Crc32>(data)
+    Crc32::new().update(data).finish()
 }

@@ -30,6 +30,13 @@ pub trait InPieces {
     fn finish(self) -> Self::Sum
         ensures { result ≡ finish_of self };
 
+    // The sum of data at once: by the type's own call for that, where it has one.
+    fn at_once(data: &[u8]) -> Self::Sum
+        ensures { result ≡ whole «data».now }
+    {
+        Self::new().update(data).finish()
+    }
+
     // To feed nothing changes nothing.
     ghost feed_none: { feed fresh [] ≡ fresh };
 

@@ -1,6 +1,7 @@
 -- Lists of bytes: runs of zeros, and what the copies of `lay` leave. Assumes nothing.
 use Rattle.std.proofs.lemmas.List.{drop-replicate}
-use Rattle.std.proofs.Common.{◌≡◌, ℕ, ◌+◌, ◌-◌, ◌<◌, List, ◌++◌, length, get_or, drop, set, replicate, append_assoc, add-one, arith, length-append, refl, take_at, drop_at}
+use Rattle.std.proofs.Common.{◌≡◌, ℕ, ◌+◌, ◌-◌, ◌<◌, ◌≤◌, List, ◌++◌, length, get_or, drop, set, replicate, append_assoc, add-one, arith, length-append, refl, take_at, drop_at, ap, ◌∙◌}
+use lib.ListN.{length-replicate}
 use borrow.Rule.Slice.PartMut.{put_mid}
 use lib.Seq.{paste, paste-suc}
 use Rattle.md5_digest.specs.Pieces.{fill}
@@ -9,6 +10,9 @@ use Rattle.md5_digest.specs.Pieces.{fill}
 pub copy_more : (d s : List ℕ) {r : List ℕ} (at j : ℕ) → at + j < length d → j < length s → r ≡ paste d at s j
     → set r (at + j) (get_or s j 0) ≡ paste d at s (j + 1)
 copy_more d s at j h h' e = rw (e, add-one) (paste-suc d at s j 0 h h')
+
+pub length-fill : (u : List ℕ) → length u ≤ 64 → length (fill u) ≡ 64
+length-fill u h = length-append u (replicate (64 - length u) 0) ∙ ap (λ (k : ℕ). length u + k) (length-replicate (64 - length u) 0) ∙ omega arith
 
 -- `lay`: u and then s, written over zeros
 pub laid : (u s : List ℕ) {a b : List ℕ} → a ≡ u → b ≡ s

@@ -5,6 +5,7 @@ use Rattle.std.specs.Simd.{first_chunks}
 use lib.ListN.{replicate-append-replicate}
 use lib.Seq.{take-append-add}
 use Rattle.md5_digest.specs.declared.Md5.{Md5}
+use Rattle.md5_digest.proofs.Bytes.{length-fill}
 use Rattle.md5_digest.specs.Rfc1321.{block_of, blocks, run, padding_bits, length_bytes, padding, output}
 use Rattle.md5_digest.specs.Pieces.{rest, fill, held, feed, finish_of}
 pub use Rattle.md5_digest.specs.Laws.{same, feed-feed, fresh-fed}
@@ -136,29 +137,36 @@ module _ (m : Md5) (whole : length m.tail ≡ 64) where
       ap (λ (k : ℕ). take k (fill bit)) (sym e) ∙ take-append-add bit (replicate (64 - length bit) 0) z
       ∙ ap (λ (r : List ℕ). bit ++ r) (take-replicate z (64 - length bit) 0 (omega arith))
 
+  -- the length's bytes are eight, and what `lay` gives is a whole block
+  length-length_bytes : length (length_bytes m.fed) ≡ 8
+  unfolding length_bytes
+  length-length_bytes = refl
+
+  length-last : length (fill bit) ≡ 64
+  length-last = length-fill bit (omega (arith, length-bit))
+
   -- where the length fits the block
-  pub finish-short : m.fed % 64 < 56 → (u v : List ℕ)
-      → length v ≡ 64
+  pub finish-short : m.fed % 64 < 56 → {u v : List ℕ}
       → u ≡ fill (take (m.fed % 64) m.tail ++ 0x80 ∷ [])
       → v ≡ take 56 u ++ length_bytes m.fed
       → output (block_of v m.state) ≡ finish_of m
   unfolding finish_of bit held
-  finish-short h u v size eu ev =
+  finish-short h {u} {v} eu ev =
       let z : ℕ = 55 - m.fed % 64 in
       let front : take 56 (fill bit) ≡ bit ++ replicate z 0 = take-fill 56 z (omega (arith, length-bit)) (omega (arith, length-bit)) in
+      let fits : length (take 56 u) ≡ 56 = length-take-le 56 u (omega (arith, ap length eu ∙ length-last)) in
+      let size : length v ≡ 64 = ap length ev ∙ length-append (take 56 u) (length_bytes m.fed) ∙ ap₂ (λ (x y : ℕ). x + y) fits length-length_bytes in
       ap output (sym (run_block v size m.state))
       ∙ ap (λ (r : List ℕ). output (run r m.state))
       (ev ∙ ap (λ (r : List ℕ). r ++ length_bytes m.fed) (ap (take 56) eu ∙ front) ∙ sym (padded z (omega arith)))
 
   -- and where it does not
-  pub finish-long : 56 ≤ m.fed % 64 → (u v : List ℕ)
-      → length u ≡ 64
-      → length v ≡ 64
+  pub finish-long : 56 ≤ m.fed % 64 → {u v : List ℕ}
       → u ≡ fill (take (m.fed % 64) m.tail ++ 0x80 ∷ [])
       → v ≡ replicate 56 0 ++ length_bytes m.fed
       → output (block_of v (block_of u m.state)) ≡ finish_of m
   unfolding finish_of bit held
-  finish-long h u v size size' eu ev =
+  finish-long h {u} {v} eu ev =
       let l : List ℕ = length_bytes m.fed in
       let y : ℕ = 64 - length bit in
       let joined : bit ++ replicate (y + 56) 0 ++ l ≡ u ++ v =
@@ -166,7 +174,8 @@ module _ (m : Md5) (whole : length m.tail ≡ 64) where
       ∙ ap (λ (r : List ℕ). r ++ l) (sym (append_assoc bit (replicate y 0) (replicate 56 0)))
       ∙ append_assoc (bit ++ replicate y 0) (replicate 56 0) l
       ∙ sym (ap₂ (λ (r s : List ℕ). r ++ s) eu ev) in
+      let size : length v ≡ 64 = ap length ev ∙ length-append (replicate 56 0) l ∙ ap (λ (k : ℕ). 56 + k) length-length_bytes in
       ap output
-      (sym (run_block v size' (block_of u m.state))
-      ∙ sym (run-front u v size m.state)
+      (sym (run_block v size (block_of u m.state))
+      ∙ sym (run-front u v (ap length eu ∙ length-last) m.state)
       ∙ ap (λ (r : List ℕ). run r m.state) (sym (padded (y + 56) (omega (arith, length-bit)) ∙ joined)))

@@ -1,7 +1,7 @@
 // The block function of MD5 (RFC 1321, section 3.4): the state after one block of 64 bytes, which is read where it lies.
 ghost use Rattle.std.specs.Prelude.{◌≡◌, ℕ, ◌+◌, ◌%◌, ◌^◌, ◌<◌, ◌≤◌, slice_index};
 ghost use Rattle.std.proofs.Common.{lit≤};
-ghost use Rattle.md5_digest.specs.Rfc1321.{sines, words, mix_of, step_of, steps_of, block_of};
+ghost use Rattle.md5_digest.specs.Rfc1321.{sines, shifts, words, mix_of, step_of, steps_of, block_of};
 
 // The 64 additive constants, T[1] to T[64] of the RFC.
 const SINES: [u32; 64] = [
@@ -21,6 +21,15 @@ static SHIFTS: [u32; 64] = [
     14, 20, 5, 9, 14, 20, 4, 11, 16, 23, 4, 11, 16, 23, 4, 11, 16, 23, 4, 11, 16, 23, 6, 10, 15,
     21, 6, 10, 15, 21, 6, 10, 15, 21, 6, 10, 15, 21,
 ];
+
+// The shift amount of operation i + 1.
+fn shift(i: usize) -> u32
+    requires { i < 64 }
+    ensures is { result ≡ slice_index shifts i }
+    ensures within { (0 < result) × (result < 32) }
+{
+    SHIFTS[i]
+}
 
 // The constants, laid out to be lent. From a static they become operands, which are added last, so that the next operation waits for
 // them: 421 MiB/s instead of 632 (measured).
@@ -153,7 +162,7 @@ fn operation<R: Round>(q: [u32; 4], p: &[u8; 64], n: usize, t: &Sines) -> [u32; 
     let (words, _) = p.as_chunks::<4>();
     let x = u32::from_le_bytes(words[R::word_of(n)]);
     let sum = R::sum(q, x.wrapping_add(t.at(i)));
-    let a = q[1].wrapping_add(sum.rotate_left(SHIFTS[i]));
+    let a = q[1].wrapping_add(sum.rotate_left(shift(i)));
     [q[3], a, q[1], q[2]]
 }
 

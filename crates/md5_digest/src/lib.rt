@@ -2,7 +2,7 @@
 #![tactic(auto)]
 
 ghost use Rattle.std.specs.Prelude.{◌≡◌, ◌+◌, ◌%◌, ◌≤◌, ◌++◌, length, take, fold};
-ghost use Rattle.md5_digest.specs.Rfc1321.{block_of, length_bytes, run, output, md5};
+ghost use Rattle.md5_digest.specs.Rfc1321.{block_of, word_bytes, length_bytes, run, output, md5};
 ghost use Rattle.md5_digest.specs.Pieces.{rest, fill, held, fresh, feed, finish_of};
 ghost use Rattle.md5_digest.specs.declared.Md5.{Md5 as Digest};
 
@@ -66,12 +66,19 @@ fn with_length(mut t: [u8; 64], n: u64) -> [u8; 64]
     t
 }
 
+// The four bytes of x, low byte first.
+fn bytes_of(x: u32) -> [u8; 4]
+    ensures { result ≡ word_bytes x }
+{
+    x.to_le_bytes()
+}
+
 // The 16 bytes of a state.
 fn output_of(st: [u32; 4]) -> [u8; 16]
     ensures { result ≡ output st }
 {
     let mut r = [0u8; 16];
-    let bytes = st.map(u32::to_le_bytes);
+    let bytes = st.map(bytes_of);
     r.copy_from_slice(bytes.as_flattened());
     r
 }
@@ -140,5 +147,5 @@ impl Md5 {
 pub fn digest(data: &[u8]) -> [u8; 16]
     ensures { result ≡ md5 «data».now }
 {
-    in_pieces::of::<Md5>(data)
+    Md5::new().update(data).finish()
 }

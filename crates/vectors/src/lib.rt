@@ -5,6 +5,7 @@ ghost use Rattle.std.specs.Prelude.{◌≡◌, ◌+◌, ◌*◌, ◌%◌, cond, 
 ghost use Rattle.std.specs.List.{range_with_len};
 
 use in_pieces::InPieces;
+use std::fmt::Display;
 use std::{array, io};
 
 // The greatest length of a message of `lengths`.
@@ -13,11 +14,33 @@ pub const LONGEST: usize = 300;
 // A sum that can be printed as the outside tools do: in hex, each byte by two digits.
 pub trait Hex {
     fn print_hex(&self, rt: &impl Print) -> io::Result<()>;
+
+    // A line of the sum, with what stands before it and after it.
+    fn print_line<B: Display + Drop, A: Display + Drop>(
+        &self,
+        rt: &impl Print,
+        before: B,
+        after: A,
+    ) -> io::Result<()> {
+        print!(rt; "{before}")?;
+        self.print_hex(rt)?;
+        println!(rt; "{after}")
+    }
 }
 
 impl Hex for u32 {
     fn print_hex(&self, rt: &impl Print) -> io::Result<()> {
         print!(rt; "{self:08x}")
+    }
+
+    // In one write: where the output fails or is shared, no line is left half written.
+    fn print_line<B: Display + Drop, A: Display + Drop>(
+        &self,
+        rt: &impl Print,
+        before: B,
+        after: A,
+    ) -> io::Result<()> {
+        println!(rt; "{before}{self:08x}{after}")
     }
 }
 
@@ -33,9 +56,7 @@ impl Hex for [u8; 16] {
 
 // A line of a name and a sum.
 pub fn named<H: Hex>(rt: &impl Print, name: &str, sum: &H) -> io::Result<()> {
-    print!(rt; "{name} ")?;
-    sum.print_hex(rt)?;
-    println!(rt; "")
+    sum.print_line(rt, format_args!("{name} "), "")
 }
 
 // Byte i of a message of n bytes: it depends on n too, so that the messages of two lengths do not start alike.
@@ -72,17 +93,15 @@ where
         .count()
 }
 
-// A line of the length of s, its sum, and the number of places where the pieces agree.
+// A line of the length of s, its sum at once, and the number of places where the pieces agree with it.
 fn line<S: InPieces>(rt: &impl Print, s: &[u8]) -> io::Result<()>
 where
     S::Sum: Hex + PartialEq + Drop,
 {
     let len = s.len();
-    let sum = in_pieces::of::<S>(s);
+    let sum = S::at_once(s);
     let cuts = agreeing::<S>(s, &sum);
-    print!(rt; "{len} ")?;
-    sum.print_hex(rt)?;
-    println!(rt; " {cuts}")
+    sum.print_line(rt, format_args!("{len} "), format_args!(" {cuts}"))
 }
 
 // A line for a message of each length from first to last, or to LONGEST.
@@ -108,4 +127,49 @@ where
         "million a",
         &in_pieces::repeated::<S>(&piece, 1000).finish(),
     )
+}
+
+#[cfg(test)]
+mod tests {
+    use super::*;
+    use std::cell::Cell;
+
+    // Counts what is printed: each call of it is a write of its own.
+    #[derive(Drop)]
+    struct Writes(Cell<u64>);
+
+    impl Writes {
+        fn one_more(&self) -> io::Result<()> {
+            self.0.set(self.0.get().wrapping_add(1));
+            Ok(())
+        }
+    }
+
+    impl Print for Writes {
+        fn print<D: Display + Drop>(&self, _value: D) -> io::Result<()> {
+            self.one_more()
+        }
+
+        fn println<D: Display + Drop>(&self, _value: D) -> io::Result<()> {
+            self.one_more()
+        }
+
+        fn write_all(&self, _bytes: &[u8]) -> io::Result<()> {
+            self.one_more()
+        }
+    }
+
+    #[test]
+    fn a_number_goes_out_with_its_line(rt: HostRuntime) {
+        let writes = Writes(Cell::new(0));
+        assert!(rt; named(&writes, "empty", &0u32).is_ok());
+        assert_eq!(rt; writes.0.get(), 1);
+    }
+
+    #[test]
+    fn sixteen_bytes_go_out_one_by_one(rt: HostRuntime) {
+        let writes = Writes(Cell::new(0));
+        assert!(rt; named(&writes, "empty", &[0u8; 16]).is_ok());
+        assert_eq!(rt; writes.0.get(), 18);
+    }
 }

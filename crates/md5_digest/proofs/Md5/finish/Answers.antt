@@ -8,14 +8,13 @@ pub returns-then-fits : goal.returns-then-fits
 unfolding held
 returns-then-fits c =
     c.output_of.ensures ∙ ap output c.absorb.ensures
-    ∙ finish-short c.args.self (omega arith) (omega arith) c.lay-last.result c.with_length-block.result (omega arith)
+    ∙ finish-short c.args.self (omega arith) (omega arith)
     (c.lay-last.ensures ∙ ap (λ (l : List ℕ). fill (l ++ 0x80 ∷ [])) c.held-held.ensures.bytes) c.with_length-block.ensures
 
 pub returns : goal.returns
 unfolding held
 returns c =
-    let last : List ℕ = c.lay-last.result in
     let block : List ℕ = c.with_length-block-2.result in
     c.output_of-2.ensures ∙ ap output (c.absorb-2.ensures ∙ ap (block_of block) c.absorb-state.ensures)
-    ∙ finish-long c.args.self (omega arith) (omega arith) last block (omega arith) (omega arith)
+    ∙ finish-long c.args.self (omega arith) (omega arith)
     (c.lay-last.ensures ∙ ap (λ (l : List ℕ). fill (l ++ 0x80 ∷ [])) c.held-held.ensures.bytes) c.with_length-block-2.ensures

@@ -1,4 +1,7 @@
+use Rattle.std.proofs.Common.{refl}
+use Rattle.crc32.specs.Crc.{fresh}
 use Rattle.crc32.proofs.pieces.Crc32InPieces.new.Goals as goal
 
 pub returns : goal.returns
-returns c = c.new.ensures
+unfolding fresh
+returns c = rw c.new.ensures refl
