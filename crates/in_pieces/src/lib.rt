@@ -30,7 +30,7 @@ pub trait InPieces {
     fn finish(self) -> Self::Sum
         ensures { result ≡ finish_of self };
 
-    // The sum of data at once: by the type's own call for that, where it has one.
+    // The sum of data at once: an impl whose crate has a call for that passes it on.
     fn at_once(data: &[u8]) -> Self::Sum
         ensures { result ≡ whole «data».now }
     {
@@ -51,7 +51,7 @@ pub trait InPieces {
 pub fn of<S: InPieces>(data: &[u8]) -> S::Sum
     ensures { result ≡ S.whole «data».now }
 {
-    S::new().update(data).finish()
+    S::at_once(data)
 }
 
 // The sum of a message in two pieces.

@@ -33,7 +33,7 @@ impl Hex for u32 {
         print!(rt; "{self:08x}")
     }
 
-    // In one write: where the output fails or is shared, no line is left half written.
+    // In one write, so that no other program's output gets into the line.
     fn print_line<B: Display + Drop, A: Display + Drop>(
         &self,
         rt: &impl Print,
@@ -93,13 +93,13 @@ where
         .count()
 }
 
-// A line of the length of s, its sum at once, and the number of places where the pieces agree with it.
+// A line of the length of s, its sum, and the number of places where the pieces agree.
 fn line<S: InPieces>(rt: &impl Print, s: &[u8]) -> io::Result<()>
 where
     S::Sum: Hex + PartialEq + Drop,
 {
     let len = s.len();
-    let sum = S::at_once(s);
+    let sum = in_pieces::of::<S>(s);
     let cuts = agreeing::<S>(s, &sum);
     sum.print_line(rt, format_args!("{len} "), format_args!(" {cuts}"))
 }
@@ -130,46 +130,4 @@ where
 }
 
 #[cfg(test)]
-mod tests {
-    use super::*;
-    use std::cell::Cell;
-
-    // Counts what is printed: each call of it is a write of its own.
-    #[derive(Drop)]
-    struct Writes(Cell<u64>);
-
-    impl Writes {
-        fn one_more(&self) -> io::Result<()> {
-            self.0.set(self.0.get().wrapping_add(1));
-            Ok(())
-        }
-    }
-
-    impl Print for Writes {
-        fn print<D: Display + Drop>(&self, _value: D) -> io::Result<()> {
-            self.one_more()
-        }
-
-        fn println<D: Display + Drop>(&self, _value: D) -> io::Result<()> {
-            self.one_more()
-        }
-
-        fn write_all(&self, _bytes: &[u8]) -> io::Result<()> {
-            self.one_more()
-        }
-    }
-
-    #[test]
-    fn a_number_goes_out_with_its_line(rt: HostRuntime) {
-        let writes = Writes(Cell::new(0));
-        assert!(rt; named(&writes, "empty", &0u32).is_ok());
-        assert_eq!(rt; writes.0.get(), 1);
-    }
-
-    #[test]
-    fn sixteen_bytes_go_out_one_by_one(rt: HostRuntime) {
-        let writes = Writes(Cell::new(0));
-        assert!(rt; named(&writes, "empty", &[0u8; 16]).is_ok());
-        assert_eq!(rt; writes.0.get(), 18);
-    }
-}
+mod tests;

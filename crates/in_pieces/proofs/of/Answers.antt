@@ -3,5 +3,4 @@ use Rattle.std.proofs.Common.{ap, ◌∙◌, arith, take_all}
 use Rattle.in_pieces.proofs.of.Goals as goal
 
 pub returns : goal.returns
-returns g c =
-    rw (c.finish.ensures, c.update.ensures, c.new.ensures) (g.met.S.InPieces.fresh_fed _ ∙ ap g.S.InPieces.whole (search (take_all, arith)))
+returns g c = c.at_once.ensures ∙ ap g.S.InPieces.whole (search (take_all, arith))
